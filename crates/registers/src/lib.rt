@@ -1,0 +1,2 @@
+// What the processor holds. So far that is the window, its three memory-mapping bytes.
+pub mod window;
