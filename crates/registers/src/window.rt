@@ -1,6 +1,6 @@
 // The window: the three bytes that say which sixteen physical pages the 64 KiB logical space shows.
 ghost use Prim.Native.Nat.{_<_};
-ghost use Rattle.registers.specs.Window.{Opens-on, area-of, base-of, page-of, physical-of, shown-page};
+ghost use Rattle.registers.specs.Window.{Opens-on, Window-laws, Worked-numbers, area-of, base-of, opens-on, page-of, physical-of, shown-page};
 ghost use mathlib.Core.Path.{_≡_};
 
 #[derive(Clone, Copy, Debug, PartialEq, Eq)]
@@ -68,4 +68,28 @@ impl Window {
         let page = self.shown_page((at / 4096) as u8);
         u32::from(page) * 4096 + u32::from(at % 4096)
     }
+
+    // Whether some logical page shows a physical page.
+    pub fn opens_on(self, page: u8) -> bool
+        ensures { λ r. ⌜ r ≡ opens-on self page ⌝ }
+    {
+        for logical in 0..16 {
+            if self.shown_page(logical) == page {
+                return true;
+            }
+        }
+        false
+    }
+}
+
+// Names the laws of the window, so that they are proved; it does nothing.
+pub fn window_laws()
+    ensures { λ _. ⌜ Window-laws ⌝ }
+{
+}
+
+// Names the worked numbers, likewise.
+pub fn worked_numbers()
+    ensures { λ _. ⌜ Worked-numbers ⌝ }
+{
 }
