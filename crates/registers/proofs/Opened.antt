@@ -38,6 +38,7 @@ translated w a = (logical-page a, omega arith, page-kept (shown-page w (logical-
     page-kept q a = omega arith
 
 pub laws : Window-laws
+unfolding opens-on
 laws = record {
   exactly = λ w q h. among-which w 16 q h;
   always = λ w p h. among-some w 16 p (shown-page w p) h refl;

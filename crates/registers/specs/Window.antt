@@ -49,7 +49,7 @@ abbrev pub shown-among : Window → ℕ → ℕ → Bool
 shown-among w zero q = false
 shown-among w (suc n) q = shown-among w n q || eqb (shown-page w n) q
 
-abbrev pub opens-on : Window → ℕ → Bool
+unfoldable pub opens-on : Window → ℕ → Bool
 opens-on w q = shown-among w 16 q
 
 -- The test says just what it should, and a translated address lies in a page that the window opens on.
