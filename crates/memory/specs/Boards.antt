@@ -3,12 +3,12 @@ use mathlib.Core.Bool.{Bool, false, cond, _&&_}
 use mathlib.Core.List.{List}
 use Prim.Native.Nat.{ℕ, _+_, _-_}
 use lib.Dec.{leb, ltb}
-use lib.ListN.{length, getD}
+use lib.ListN.{length, getD, set}
 use denote.Ref.{now}
 use Rattle.std.specs.declared.result.Result.{Result}
 use Rattle.std.specs.declared.result.Result.the-variants.{Ok, Err}
 use Rattle.denial.specs.Denials.{Told, numbered}
-use Rattle.memory.specs.Memory.{Mem}
+use Rattle.memory.specs.Memory.{Mem, is-address}
 use Rattle.memory.specs.declared.length.BoardLength.{BoardLength}
 use Rattle.memory.specs.declared.bank.Bank.{Bank}
 use Rattle.memory.specs.declared.rom_ram.RomRam.{RomRam}
@@ -38,6 +38,15 @@ bank-memory b = cut (b .length) (bank (now (b .bytes)))
 
 abbrev pub rom-ram-memory : RomRam → Mem
 rom-ram-memory b = cut (b .length) (rom-ram (now (b .rom)) (now (b .ram)))
+
+-- The lent bytes after a write of b to the address a: what was lent behind the board's end stays too.
+abbrev pub bank-run : Bank → ℕ → ℕ → List ℕ
+bank-run k a b = cond (is-address a && bank-memory k .takes a) (set (now (k .bytes)) a b) (now (k .bytes))
+
+abbrev pub ram-run : RomRam → ℕ → ℕ → List ℕ
+ram-run k a b =
+    cond (is-address a && rom-ram-memory k .takes a)
+    (set (now (k .ram)) (a - length (now (k .rom))) b) (now (k .ram))
 
 -- How long a board of n bytes is: at most 524,288, or it is denied.
 abbrev pub board-length : ℕ → Result ℕ Told

@@ -1,9 +1,9 @@
 // A bank: a lent run of bytes from address 0, which all take writes. Behind it addresses hold FFH and take no writes.
 ghost use Prim.Native.Nat.{_≤_};
 ghost use Rattle.denial.specs.Denials.{answered};
-ghost use Rattle.memory.specs.Boards.{bank as bank-over, bank-memory, bytes-of, cut};
+ghost use Rattle.memory.specs.Boards.{bank as bank-over, bank-memory, bank-run, bytes-of, cut};
 ghost use Rattle.memory.specs.Memory.{accepted, store};
-ghost use denote.Ref.{name};
+ghost use denote.Ref.{name, now as held};
 ghost use lib.ListN.{length};
 ghost use mathlib.Core.Path.{_≡_};
 use crate::BEYOND;
@@ -23,6 +23,7 @@ impl<'a> Bank<'a> {
     pub fn new(bytes: &'a mut [u8], size: BoardLength) -> Bank<'a>
         ensures memory { λ r. ⌜ bank-memory r ≡ cut (bytes-of size) (bank-over (now (bytes .entry))) ⌝ }
         ensures whole { λ r. ⌜ (length (now (bytes .entry)) ≤ bytes-of size → bank-memory r ≡ bank-over (now (bytes .entry))) ⌝ }
+        ensures bytes { λ r. ⌜ held (r .bytes) ≡ now (bytes .entry) ⌝ }
         ensures loan { λ r. ⌜ name (r .bytes) ≡ name (bytes .entry) ⌝ }
     {
         Bank {
@@ -34,6 +35,7 @@ impl<'a> Bank<'a> {
     // Ends the bank and hands the loan back, with the bytes that the bank held.
     pub fn into_bytes(self) -> &'a mut [u8]
         ensures memory { λ r. ⌜ bank-memory (self .entry) ≡ cut (self .entry .length) (bank-over (now r)) ⌝ }
+        ensures bytes { λ r. ⌜ now r ≡ held (self .entry .bytes) ⌝ }
         ensures loan { λ r. ⌜ name r ≡ name (self .entry .bytes) ⌝ }
     {
         let Bank { bytes, length: _ } = self;
@@ -60,6 +62,7 @@ pub impl<'a> Memory for Bank<'a> as BankMemory {
     fn write(&mut self, at: u32, byte: u8) -> Result<(), Denial>
         ensures answer { λ r. ⌜ answered r ≡ accepted at ⌝ }
         ensures after { λ _. ⌜ bank-memory (now (self .exit)) ≡ store (bank-memory (now (self .entry))) at byte ⌝ }
+        ensures bytes { λ _. ⌜ held (now (self .exit) .bytes) ≡ bank-run (now (self .entry)) at byte ⌝ }
         ensures loan { λ _. ⌜ name (now (self .exit) .bytes) ≡ name (now (self .entry) .bytes) ⌝ }
     {
         if at >= BEYOND {

@@ -1,8 +1,8 @@
 // A ROM-and-RAM board: lent bytes for reading, then lent bytes for writing. Behind both it is as a bank is behind its end.
 ghost use Rattle.denial.specs.Denials.{answered};
-ghost use Rattle.memory.specs.Boards.{bytes-of, cut, rom-ram, rom-ram-memory};
+ghost use Rattle.memory.specs.Boards.{bytes-of, cut, ram-run, rom-ram, rom-ram-memory};
 ghost use Rattle.memory.specs.Memory.{accepted, store};
-ghost use denote.Ref.{name};
+ghost use denote.Ref.{name, now as held};
 ghost use lib.ListN.{length};
 ghost use Prim.Native.Nat.{_+_, _≤_};
 ghost use mathlib.Core.Path.{_≡_};
@@ -24,6 +24,7 @@ impl<'a> RomRam<'a> {
     pub fn new(rom: &'a [u8], ram: &'a mut [u8], size: BoardLength) -> RomRam<'a>
         ensures memory { λ r. ⌜ rom-ram-memory r ≡ cut (bytes-of size) (rom-ram (now (rom .entry)) (now (ram .entry))) ⌝ }
         ensures whole { λ r. ⌜ (length (now (rom .entry)) + length (now (ram .entry)) ≤ bytes-of size → rom-ram-memory r ≡ rom-ram (now (rom .entry)) (now (ram .entry))) ⌝ }
+        ensures bytes { λ r. ⌜ held (r .ram) ≡ now (ram .entry) ⌝ }
         ensures loan { λ r. ⌜ name (r .ram) ≡ name (ram .entry) ⌝ }
     {
         RomRam {
@@ -36,6 +37,7 @@ impl<'a> RomRam<'a> {
     // Ends the board and hands the loan of its RAM back, with the bytes that the board held.
     pub fn into_ram(self) -> &'a mut [u8]
         ensures memory { λ r. ⌜ rom-ram-memory (self .entry) ≡ cut (self .entry .length) (rom-ram (now (self .entry .rom)) (now r)) ⌝ }
+        ensures bytes { λ r. ⌜ now r ≡ held (self .entry .ram) ⌝ }
         ensures loan { λ r. ⌜ name r ≡ name (self .entry .ram) ⌝ }
     {
         let RomRam {
@@ -73,6 +75,7 @@ pub impl<'a> Memory for RomRam<'a> as RomRamMemory {
     fn write(&mut self, at: u32, byte: u8) -> Result<(), Denial>
         ensures answer { λ r. ⌜ answered r ≡ accepted at ⌝ }
         ensures after { λ _. ⌜ rom-ram-memory (now (self .exit)) ≡ store (rom-ram-memory (now (self .entry))) at byte ⌝ }
+        ensures bytes { λ _. ⌜ held (now (self .exit) .ram) ≡ ram-run (now (self .entry)) at byte ⌝ }
         ensures loan { λ _. ⌜ name (now (self .exit) .ram) ≡ name (now (self .entry) .ram) ⌝ }
     {
         if at >= BEYOND {

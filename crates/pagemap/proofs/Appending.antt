@@ -30,3 +30,8 @@ none-opened w s = sym (append-nil s)
 pub opened-more : (w : Window) (n : ℕ) (s t u : List ℕ) → t ≡ s ++ opened-text w n → u ≡ t ++ opened-page w n → u ≡ s ++ opened-text w (n + 1)
 unfolding opened-text
 opened-more w n s t u before now = after s (opened-text w n) (opened-page w n) t u before now ∙ ap (λ k. s ++ opened-text w k) (sym (add-one n))
+
+-- five pieces, one after another, from nothing
+pub five : (a b c d e t₀ t₁ t₂ t₃ t₄ t₅ : List ℕ) → t₀ ≡ [] → t₁ ≡ t₀ ++ a → t₂ ≡ t₁ ++ b → t₃ ≡ t₂ ++ c → t₄ ≡ t₃ ++ d → t₅ ≡ t₄ ++ e → t₅ ≡ a ++ (b ++ (c ++ (d ++ e)))
+five a b c d e t₀ t₁ t₂ t₃ t₄ t₅ h₀ h₁ h₂ h₃ h₄ h₅ =
+    h₅ ∙ ap (λ l. l ++ e) (h₄ ∙ ap (λ l. l ++ d) (h₃ ∙ ap (λ l. l ++ c) (h₂ ∙ ap (λ l. l ++ b) (h₁ ∙ ap (λ l. l ++ a) h₀)))) ∙ simp append-assoc

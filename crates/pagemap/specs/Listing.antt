@@ -29,16 +29,13 @@ unfoldable pub opened-text : Window → ℕ → List ℕ
 opened-text w zero = []
 opened-text w (suc n) = opened-text w n ++ opened-page w n
 
-abbrev pub opened-line : Window → List ℕ
-opened-line w = codes "opens on" ++ line (opened-text w 128)
+-- The listing of a memory in which so many bytes are present.
+abbrev pub map-text : Mem → ℕ → Window → List ℕ
+map-text m bytes w = head-text bytes w ++ (pages-text m bytes w 16 ++ (codes "opens on" ++ line (opened-text w 128)))
 
--- The listing: the image is a bank.
-abbrev pub map-text : List ℕ → Window → List ℕ
-map-text image w = head-text (length image) w ++ (pages-text (bank image) (length image) w 16 ++ opened-line w)
-
--- What is to be printed: the listing, or one line that says why there is none.
+-- What is to be printed, the image being a bank: the listing, or one line that says why there is none.
 abbrev pub under : List ℕ → Result Window BadArgument → Result (List ℕ) (List ℕ)
-under image (Ok w) = Ok (map-text image w)
+under image (Ok w) = Ok (map-text (bank image) (length image) w)
 under image (Err bad) = Err (bad-argument-line bad)
 
 abbrev pub asked : List (List ℕ) → List ℕ → Result (List ℕ) (List ℕ)

@@ -42,8 +42,13 @@ pub impl fmt::Display for BadArgument as BadArgumentDisplay {
 
     fn fmt<W: fmt::Write>(&self, f: &mut fmt::Formatter<W>) -> fmt::Result {
         match self {
-            BadArgument::NotThree => f.write_str("give three hexadecimal bytes, CBAR CBR BBR, or none"),
-            BadArgument::NotAByte(place) => write!(f, "{place} is not a byte in one or two hexadecimal digits"),
+            BadArgument::NotThree => f.write_str(
+                "give three hexadecimal bytes, CBAR CBR BBR, or none",
+            ),
+            BadArgument::NotAByte(place) => write!(
+                f,
+                "{place} is not a byte in one or two hexadecimal digits"
+            ),
             BadArgument::AboveBase(place) => write!(f, "{place} is above 7F"),
         }
     }

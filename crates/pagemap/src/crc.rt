@@ -5,7 +5,11 @@ ghost use mathlib.Core.Path.{_≡_};
 fn after_bit(crc: u32) -> u32
     ensures { λ r. ⌜ r ≡ crc-bit crc ⌝ }
 {
-    if crc % 2 == 1 { crc / 2 ^ 0xEDB8_8320 } else { crc / 2 }
+    if crc % 2 == 1 {
+        crc / 2 ^ 0xEDB8_8320
+    } else {
+        crc / 2
+    }
 }
 
 fn after_byte(crc: u32, byte: u8) -> u32
@@ -31,5 +35,4 @@ pub fn crc32(bytes: &[u8]) -> u32
 // Names the published check value, so that it is proved of the definition; it does nothing.
 pub fn check_value()
     ensures { λ _. ⌜ Check-value ⌝ }
-{
-}
+{}

@@ -77,6 +77,9 @@ pub impl fmt::Display for PageReport as PageReportDisplay {
         let address = HexAddress(u32::from(self.shown) * 4096);
         let present = Right4(self.present);
         let crc = HexLong(self.crc);
-        write!(f, "   {page}  {area}     {shown}    {address}   {present}  {crc}")
+        write!(
+            f,
+            "   {page}  {area}     {shown}    {address}   {present}  {crc}"
+        )
     }
 }

@@ -26,9 +26,3 @@ pub impl fmt::Display for Unlisted as UnlistedDisplay {
         }
     }
 }
-
-pub impl From<fmt::Error> for Unlisted as UnlistedFromFmt {
-    fn from(_error: fmt::Error) -> Unlisted {
-        Unlisted::NoMemory
-    }
-}

@@ -85,11 +85,9 @@ impl Window {
 // Names the laws of the window, so that they are proved; it does nothing.
 pub fn window_laws()
     ensures { λ _. ⌜ Window-laws ⌝ }
-{
-}
+{}
 
 // Names the worked numbers, likewise.
 pub fn worked_numbers()
     ensures { λ _. ⌜ Worked-numbers ⌝ }
-{
-}
+{}

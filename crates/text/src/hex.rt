@@ -11,7 +11,11 @@ fn last_digit(n: u8) -> char
     ensures { λ r. ⌜ encode r ≡ hex-digit n ∷ [] ⌝ }
 {
     let n = n % 16;
-    if n < 10 { char::from(b'0' + n) } else { char::from(b'A' + (n - 10)) }
+    if n < 10 {
+        char::from(b'0' + n)
+    } else {
+        char::from(b'A' + (n - 10))
+    }
 }
 
 // One digit.

@@ -10,11 +10,10 @@ pub loop-k-again : need.loop-k-again
 loop-k-again g c =
     let start = c .args .page * 4096 in
     let through = byte-through (g .M·Memory .memory (c .args .memory .now)) (c .args .window) in
-    let within : c .loop-k .k < length (c .loop-k .bytes) = omega (arith, c .loop-k .inv .0) in
-    (
-        length-set (c .loop-k .bytes) (c .from .result) (c .byte-through .result) ∙ c .loop-k .inv .0,
-        filled-more (λ i. through (start + i)) (c .loop-k .bytes) (c .loop-k .k) (c .from .result) (c .byte-through .result) (c .from .ensures)
-        (c .byte-through .ensures ∙ ap (λ s. through (s * 4096 + c .loop-k .k)) (c .from-start .ensures)) within (c .loop-k .inv .1)
+    let within : c .loop-k .k < length (c .loop-k .bytes) = omega (arith, c .loop-k .inv .0) in (
+      length-set (c .loop-k .bytes) (c .from .result) (c .byte-through .result) ∙ c .loop-k .inv .0,
+      filled-more (λ i. through (start + i)) (c .loop-k .bytes) (c .loop-k .k) (c .from .result) (c .byte-through .result) (c .from .ensures)
+          (c .byte-through .ensures ∙ ap (λ s. through (s * 4096 + c .loop-k .k)) (c .from-start .ensures)) within (c .loop-k .inv .1),
     )
 
 pub returns : need.returns
