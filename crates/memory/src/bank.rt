@@ -24,6 +24,7 @@ impl<'a> Bank<'a> {
         ensures memory { λ r. ⌜ bank-memory r ≡ cut (bytes-of size) (bank-over (now (bytes .entry))) ⌝ }
         ensures whole { λ r. ⌜ (length (now (bytes .entry)) ≤ bytes-of size → bank-memory r ≡ bank-over (now (bytes .entry))) ⌝ }
         ensures bytes { λ r. ⌜ held (r .bytes) ≡ now (bytes .entry) ⌝ }
+        ensures size { λ r. ⌜ r .length ≡ bytes-of size ⌝ }
         ensures loan { λ r. ⌜ name (r .bytes) ≡ name (bytes .entry) ⌝ }
     {
         Bank {

@@ -1,21 +1,15 @@
-// What a memory is, and the makes of memory: a bank and a ROM-and-RAM board at the bottom, plugs over any memory.
+// What a memory is, and the two boards at the bottom of one: a bank, and a ROM-and-RAM board.
 ghost use Rattle.denial.specs.Denials.{answered};
 ghost use Rattle.memory.specs.Memory.{Mem, Store-laws, accepted, fetched, store};
 ghost use mathlib.Core.Path.{_≡_};
 use denial::Denial;
 
 pub mod bank;
-pub mod entry;
 pub mod length;
-pub mod patch;
-mod places;
-pub mod protect;
 pub mod rom_ram;
-mod table;
-pub mod unmade;
 
 // The first number that is no physical address.
-const BEYOND: u32 = 524_288;
+pub const BEYOND: u32 = 524_288;
 
 // A memory means, for each physical address, a byte and whether the address takes writes. Every make says by `memory`
 // which memory its value is, and shows that reading and writing are those of the meaning.

@@ -25,6 +25,7 @@ impl<'a> RomRam<'a> {
         ensures memory { λ r. ⌜ rom-ram-memory r ≡ cut (bytes-of size) (rom-ram (now (rom .entry)) (now (ram .entry))) ⌝ }
         ensures whole { λ r. ⌜ (length (now (rom .entry)) + length (now (ram .entry)) ≤ bytes-of size → rom-ram-memory r ≡ rom-ram (now (rom .entry)) (now (ram .entry))) ⌝ }
         ensures bytes { λ r. ⌜ held (r .ram) ≡ now (ram .entry) ⌝ }
+        ensures size { λ r. ⌜ r .length ≡ bytes-of size ⌝ }
         ensures loan { λ r. ⌜ name (r .ram) ≡ name (ram .entry) ⌝ }
     {
         RomRam {

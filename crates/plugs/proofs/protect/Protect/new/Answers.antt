@@ -1,0 +1,7 @@
+use Rattle.plugs.specs.Plugs.{protected}
+use Rattle.plugs.proofs.Plugging.{plugged-in}
+use Rattle.plugs.proofs.protect.Protect.new.Needs as need
+
+pub returns-in-Ok : need.returns-in-Ok
+returns-in-Ok g c =
+    plugged-in (λ f. protected f (g .M·Memory .memory (c .args .below))) (c .args .below) _ _ _ (c .in-Ok .ensures tt .0) (c .in-Ok .ensures tt .1)
