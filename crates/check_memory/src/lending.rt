@@ -38,3 +38,14 @@ fn the_loan_comes_back_with_what_the_board_held() -> Result<(), Fail> {
     check(lent.len() == 3)?;
     check_eq(lent[0], 7)
 }
+
+// The compiler holds the lender to it: touching the bytes before the bank's last use is refused.
+#[test]
+fn the_lender_has_the_bytes_back_after_the_last_use() -> Result<(), Fail> {
+    let mut bytes = [1, 2, 3];
+    let size = BoardLength::of_bank(&bytes)?;
+    let mut bank = Bank::new(&mut bytes, size);
+    let _ = bank.write(1, 7);
+    bytes[0] = bytes[1];
+    check_eq(bytes, [7, 7, 3])
+}
