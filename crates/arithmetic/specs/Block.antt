@@ -1,0 +1,26 @@
+-- The flags of the block instructions. Assumes nothing.
+use mathlib.Core.Bool.{Bool, true, false, not}
+use Prim.Native.Nat.{ℕ, _%_}
+use Rattle.arithmetic.specs.Add.{borrows, difference}
+use Rattle.arithmetic.specs.Flags.{even-parity, negative, row, zero}
+use Rattle.arithmetic.specs.declared.flags.Flags.{Flags}
+
+-- S, Z and H of the difference of A and the byte; P/V is 1 while the lowered BC is not 0; C stays.
+abbrev pub compare : ℕ → ℕ → ℕ → Flags → ℕ × Flags
+compare a m left f = (a, row f (negative 256 (difference 256 a m false)) (zero (difference 256 a m false)) (borrows (a % 16) (m % 16) false) (not (zero left)) true (f .c))
+
+-- S, Z and C stay.
+abbrev pub transfer : ℕ → ℕ → Flags → ℕ × Flags
+transfer m left f = (m, row f (f .s) (f .z) false (not (zero left)) false (f .c))
+
+-- B, lowered by one.
+abbrev pub lowered : ℕ → ℕ
+lowered b = difference 256 b 1 false
+
+-- Only Z, which is 1 if B became 0, and N, which is bit 7 of the byte, change.
+abbrev pub port : ℕ → ℕ → Flags → ℕ × Flags
+port b m f = (lowered b, row f (f .s) (zero (lowered b)) (f .h) (f .pv) (negative 256 m) (f .c))
+
+-- S, Z, H, even parity and borrow of the lowering of B; N is bit 7 of the byte.
+abbrev pub port-zero : ℕ → ℕ → Flags → ℕ × Flags
+port-zero b m f = (lowered b, row f (negative 256 (lowered b)) (zero (lowered b)) (borrows (b % 16) 1 false) (even-parity (lowered b)) (negative 256 m) (borrows b 1 false))
