@@ -7,6 +7,7 @@ pub mod Flags
 pub mod Increment
 pub mod Logic
 pub mod Multiply
+pub mod Operation
 pub mod Port
 pub mod Rotate
 pub mod Wide

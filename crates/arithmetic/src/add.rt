@@ -4,7 +4,7 @@ ghost use mathlib.Core.Path.{_≡_};
 use crate::flags::Flags;
 
 // a + b, and one more with a carry.
-pub(crate) fn plus(a: u8, b: u8, carry: bool, flags: Flags) -> (u8, Flags)
+fn plus(a: u8, b: u8, carry: bool, flags: Flags) -> (u8, Flags)
     ensures { λ r. ⌜ r ≡ of.plus a b carry flags ⌝ }
 {
     let sum = u16::from(a) + u16::from(b) + u16::from(carry);
@@ -22,7 +22,7 @@ pub(crate) fn plus(a: u8, b: u8, carry: bool, flags: Flags) -> (u8, Flags)
 }
 
 // a - b, and one less with a borrow.
-pub(crate) fn minus(a: u8, b: u8, borrow: bool, flags: Flags) -> (u8, Flags)
+fn minus(a: u8, b: u8, borrow: bool, flags: Flags) -> (u8, Flags)
     ensures { λ r. ⌜ r ≡ of.minus a b borrow flags ⌝ }
 {
     let value = a.wrapping_sub(b).wrapping_sub(u8::from(borrow));
@@ -39,35 +39,35 @@ pub(crate) fn minus(a: u8, b: u8, borrow: bool, flags: Flags) -> (u8, Flags)
 }
 
 // ADD A
-pub fn add(a: u8, b: u8, flags: Flags) -> (u8, Flags)
+pub(crate) fn add(a: u8, b: u8, flags: Flags) -> (u8, Flags)
     ensures { λ r. ⌜ r ≡ of.add a b flags ⌝ }
 {
     plus(a, b, false, flags)
 }
 
 // ADC A
-pub fn add_with_carry(a: u8, b: u8, flags: Flags) -> (u8, Flags)
+pub(crate) fn add_with_carry(a: u8, b: u8, flags: Flags) -> (u8, Flags)
     ensures { λ r. ⌜ r ≡ of.add-with-carry a b flags ⌝ }
 {
     plus(a, b, flags.c, flags)
 }
 
 // SUB
-pub fn subtract(a: u8, b: u8, flags: Flags) -> (u8, Flags)
+pub(crate) fn subtract(a: u8, b: u8, flags: Flags) -> (u8, Flags)
     ensures { λ r. ⌜ r ≡ of.subtract a b flags ⌝ }
 {
     minus(a, b, false, flags)
 }
 
 // SBC A
-pub fn subtract_with_carry(a: u8, b: u8, flags: Flags) -> (u8, Flags)
+pub(crate) fn subtract_with_carry(a: u8, b: u8, flags: Flags) -> (u8, Flags)
     ensures { λ r. ⌜ r ≡ of.subtract-with-carry a b flags ⌝ }
 {
     minus(a, b, flags.c, flags)
 }
 
 // CP: the flags of a subtraction; A stays.
-pub fn compare(a: u8, b: u8, flags: Flags) -> (u8, Flags)
+pub(crate) fn compare(a: u8, b: u8, flags: Flags) -> (u8, Flags)
     ensures { λ r. ⌜ r ≡ of.compare a b flags ⌝ }
 {
     let (_, flags) = subtract(a, b, flags);

@@ -9,14 +9,14 @@ use crate::flags::Flags;
 pub fn increment(value: u8, flags: Flags) -> (u8, Flags)
     ensures { λ r. ⌜ r ≡ of.increment value flags ⌝ }
 {
-    let (next, new) = add(value, 1, flags);
-    (next, Flags { c: flags.c, ..new })
+    let (more, new) = add(value, 1, flags);
+    (more, Flags { c: flags.c, ..new })
 }
 
 // DEC
 pub fn decrement(value: u8, flags: Flags) -> (u8, Flags)
     ensures { λ r. ⌜ r ≡ of.decrement value flags ⌝ }
 {
-    let (next, new) = subtract(value, 1, flags);
-    (next, Flags { c: flags.c, ..new })
+    let (less, new) = subtract(value, 1, flags);
+    (less, Flags { c: flags.c, ..new })
 }

@@ -8,6 +8,7 @@ pub mod flags;
 pub mod increment;
 pub mod logic;
 pub mod multiply;
+pub mod operation;
 pub mod port;
 pub mod rotate;
 pub mod wide;

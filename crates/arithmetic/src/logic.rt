@@ -4,7 +4,7 @@ ghost use mathlib.Core.Path.{_≡_};
 use crate::flags::Flags;
 
 // AND
-pub fn and(a: u8, b: u8, flags: Flags) -> (u8, Flags)
+pub(crate) fn and(a: u8, b: u8, flags: Flags) -> (u8, Flags)
     ensures { λ r. ⌜ r ≡ of.and a b flags ⌝ }
 {
     let value = a & b;
@@ -17,7 +17,7 @@ pub fn and(a: u8, b: u8, flags: Flags) -> (u8, Flags)
 }
 
 // OR
-pub fn or(a: u8, b: u8, flags: Flags) -> (u8, Flags)
+pub(crate) fn or(a: u8, b: u8, flags: Flags) -> (u8, Flags)
     ensures { λ r. ⌜ r ≡ of.or a b flags ⌝ }
 {
     let value = a | b;
@@ -29,7 +29,7 @@ pub fn or(a: u8, b: u8, flags: Flags) -> (u8, Flags)
 }
 
 // XOR
-pub fn xor(a: u8, b: u8, flags: Flags) -> (u8, Flags)
+pub(crate) fn xor(a: u8, b: u8, flags: Flags) -> (u8, Flags)
     ensures { λ r. ⌜ r ≡ of.xor a b flags ⌝ }
 {
     let value = a ^ b;

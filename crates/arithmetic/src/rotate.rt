@@ -27,99 +27,54 @@ fn right(value: u8, high: bool, flags: Flags) -> (u8, Flags)
     (moved, flags)
 }
 
-// RLC: bit 7 comes in at bit 0.
-pub fn rlc(value: u8, flags: Flags) -> (u8, Flags)
-    ensures { λ r. ⌜ r ≡ of.rlc value flags ⌝ }
-{
-    left(value, value >= 128, flags)
+// A rotate's or a shift's kind.
+#[derive(Clone, Copy, Debug)]
+pub enum Rotate {
+    // bit 7 comes in at bit 0
+    Rlc,
+    // bit 0 comes in at bit 7
+    Rrc,
+    // C comes in at bit 0
+    Rl,
+    // C comes in at bit 7
+    Rr,
+    // 0 comes in at bit 0
+    Sla,
+    // bit 7 stays
+    Sra,
+    // 0 comes in at bit 7
+    Srl,
 }
 
-// RRC: bit 0 comes in at bit 7.
-pub fn rrc(value: u8, flags: Flags) -> (u8, Flags)
-    ensures { λ r. ⌜ r ≡ of.rrc value flags ⌝ }
-{
-    right(value, value % 2 == 1, flags)
-}
-
-// RL: C comes in at bit 0.
-pub fn rl(value: u8, flags: Flags) -> (u8, Flags)
-    ensures { λ r. ⌜ r ≡ of.rl value flags ⌝ }
-{
-    left(value, flags.c, flags)
-}
-
-// RR: C comes in at bit 7.
-pub fn rr(value: u8, flags: Flags) -> (u8, Flags)
-    ensures { λ r. ⌜ r ≡ of.rr value flags ⌝ }
-{
-    right(value, flags.c, flags)
-}
-
-// SLA: 0 comes in at bit 0.
-pub fn sla(value: u8, flags: Flags) -> (u8, Flags)
-    ensures { λ r. ⌜ r ≡ of.sla value flags ⌝ }
-{
-    left(value, false, flags)
-}
-
-// SRA: bit 7 stays.
-pub fn sra(value: u8, flags: Flags) -> (u8, Flags)
-    ensures { λ r. ⌜ r ≡ of.sra value flags ⌝ }
-{
-    right(value, value >= 128, flags)
-}
-
-// SRL: 0 comes in at bit 7.
-pub fn srl(value: u8, flags: Flags) -> (u8, Flags)
-    ensures { λ r. ⌜ r ≡ of.srl value flags ⌝ }
-{
-    right(value, false, flags)
-}
-
-impl Flags {
-    // What a rotate of the accumulator leaves: the rotate's C, H and N 0; S, Z and P/V stay.
-    fn rotated(self, c: bool) -> Flags
-        ensures { λ r. ⌜ r ≡ of.rotated self c ⌝ }
+impl Rotate {
+    // RLC, RRC, RL, RR, SLA, SRA and SRL
+    pub fn apply(self, value: u8, flags: Flags) -> (u8, Flags)
+        ensures { λ r. ⌜ r ≡ of.apply self value flags ⌝ }
     {
-        Flags {
-            h: false,
-            n: false,
-            c,
-            ..self
+        match self {
+            Rotate::Rlc => left(value, value >= 128, flags),
+            Rotate::Rrc => right(value, value % 2 == 1, flags),
+            Rotate::Rl => left(value, flags.c, flags),
+            Rotate::Rr => right(value, flags.c, flags),
+            Rotate::Sla => left(value, false, flags),
+            Rotate::Sra => right(value, value >= 128, flags),
+            Rotate::Srl => right(value, false, flags),
         }
     }
-}
 
-// RLCA
-pub fn rlca(a: u8, flags: Flags) -> (u8, Flags)
-    ensures { λ r. ⌜ r ≡ of.rlca a flags ⌝ }
-{
-    let (value, turned) = rlc(a, flags);
-    (value, flags.rotated(turned.c))
-}
-
-// RRCA
-pub fn rrca(a: u8, flags: Flags) -> (u8, Flags)
-    ensures { λ r. ⌜ r ≡ of.rrca a flags ⌝ }
-{
-    let (value, turned) = rrc(a, flags);
-    (value, flags.rotated(turned.c))
-}
-
-// RLA
-pub fn rla(a: u8, flags: Flags) -> (u8, Flags)
-    ensures { λ r. ⌜ r ≡ of.rla a flags ⌝ }
-{
-    let (value, turned) = rl(a, flags);
-    (value, flags.rotated(turned.c))
-}
-
-// RRA
-pub fn rra(a: u8, flags: Flags) -> (u8, Flags)
-    ensures { λ r. ⌜ r ≡ of.rra a flags ⌝ }
-{
-    let (value, turned) = rr(a, flags);
-    (value, flags.rotated(turned.c))
+    // RLCA, RRCA, RLA and RRA, which keep S, Z and P/V.
+    pub fn accumulator(self, a: u8, flags: Flags) -> (u8, Flags)
+        ensures { λ r. ⌜ r ≡ of.accumulator self a flags ⌝ }
+    {
+        let (value, rotated) = self.apply(a, flags);
+        let flags = Flags {
+            h: false,
+            n: false,
+            c: rotated.c,
+            ..flags
+        };
+        (value, flags)
+    }
 }
 
 // RLD: A's low digit, and the byte's two, move one place to the left. It answers A and the byte.
