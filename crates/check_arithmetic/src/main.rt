@@ -1,0 +1,118 @@
+// Prints a checksum of the results of each operation that the Z80 has too, over every operand and every F. What it must
+// print was made by another emulator: bench/z80ex-table.c, which says which flags are left out, and why.
+mod byte;
+mod digits;
+mod pair;
+mod sum;
+mod word;
+
+use arithmetic::operation::Operation;
+use arithmetic::rotate::Rotate;
+use byte::One;
+use digits::Digits;
+use pair::Two;
+use std::io;
+use word::Wide;
+
+// S, Z, H, P/V, N and C. Bits 5 and 3 are left out: the Z80 takes them from a result, the HD64180 carries them along.
+const ALL: u8 = 0xD7;
+// H is left out too: in CCF it is the old C on the Z80 and 0 on the HD64180, and the HD64180's 16-bit operations keep it.
+const NOT_HALF: u8 = 0xC7;
+// Z, H, N and C: BIT keeps S and P/V on the HD64180.
+const TESTED: u8 = 0x53;
+// Z and N, which are all that a block port instruction changes on the HD64180.
+const COUNTED: u8 = 0x42;
+// The whole of F, where no flag changes.
+const WHOLE: u8 = 0xFF;
+
+fn one(rt: &LibcRuntime, name: &str, operation: One, mask: u8) -> io::Result<()> {
+    let sum = operation.sum(mask);
+    println!(rt, "{name} {mask:02X} {sum:08X}")
+}
+
+fn two(rt: &LibcRuntime, name: &str, operation: Two, mask: u8) -> io::Result<()> {
+    let sum = operation.sum(mask);
+    println!(rt, "{name} {mask:02X} {sum:08X}")
+}
+
+fn rotates(rt: &LibcRuntime) -> io::Result<()> {
+    one(rt, "RLC", One::Rotate(Rotate::Rlc), ALL)?;
+    one(rt, "RRC", One::Rotate(Rotate::Rrc), ALL)?;
+    one(rt, "RL", One::Rotate(Rotate::Rl), ALL)?;
+    one(rt, "RR", One::Rotate(Rotate::Rr), ALL)?;
+    one(rt, "SLA", One::Rotate(Rotate::Sla), ALL)?;
+    one(rt, "SRA", One::Rotate(Rotate::Sra), ALL)?;
+    one(rt, "SRL", One::Rotate(Rotate::Srl), ALL)?;
+    one(rt, "RLCA", One::Accumulator(Rotate::Rlc), ALL)?;
+    one(rt, "RRCA", One::Accumulator(Rotate::Rrc), ALL)?;
+    one(rt, "RLA", One::Accumulator(Rotate::Rl), ALL)?;
+    one(rt, "RRA", One::Accumulator(Rotate::Rr), ALL)?;
+    for (name, digits) in [("RLD", Digits::Left), ("RRD", Digits::Right)] {
+        let sum = digits.sum(ALL);
+        println!(rt, "{name} {ALL:02X} {sum:08X}")?;
+    }
+    Ok(())
+}
+
+fn bits(rt: &LibcRuntime) -> io::Result<()> {
+    for number in 0..8u8 {
+        let sum = One::Test(number).sum(TESTED);
+        println!(rt, "BIT {number} {TESTED:02X} {sum:08X}")?;
+    }
+    for number in 0..8u8 {
+        let sum = One::Reset(number).sum(WHOLE);
+        println!(rt, "RES {number} {WHOLE:02X} {sum:08X}")?;
+    }
+    for number in 0..8u8 {
+        let sum = One::Set(number).sum(WHOLE);
+        println!(rt, "SET {number} {WHOLE:02X} {sum:08X}")?;
+    }
+    Ok(())
+}
+
+fn blocks(rt: &LibcRuntime) -> io::Result<()> {
+    two(rt, "CPI, BC = 0", Two::Compare(0), ALL)?;
+    two(rt, "CPI, BC > 0", Two::Compare(1), ALL)?;
+    one(rt, "LDI, BC = 0", One::Transfer(0), ALL)?;
+    one(rt, "LDI, BC > 0", One::Transfer(1), ALL)?;
+    two(rt, "INI", Two::Port, COUNTED)?;
+    two(rt, "OUTI", Two::Port, COUNTED)?;
+    one(rt, "IN D,(C)", One::Input, ALL)?;
+    one(rt, "LD A,I, IEF2 = 0", One::Load(false), ALL)?;
+    one(rt, "LD A,I, IEF2 = 1", One::Load(true), ALL)
+}
+
+fn words(rt: &LibcRuntime) -> io::Result<()> {
+    for (name, operation) in [
+        ("ADD HL", Wide::Add),
+        ("ADC HL", Wide::AddWithCarry),
+        ("SBC HL", Wide::SubtractWithCarry),
+    ] {
+        let sum = operation.sum(NOT_HALF);
+        println!(rt, "{name} {NOT_HALF:02X} {sum:08X}")?;
+    }
+    Ok(())
+}
+
+fn main(rt: LibcRuntime) -> io::Result<()> {
+    two(&rt, "ADD", Two::Operate(Operation::Add), ALL)?;
+    two(&rt, "ADC", Two::Operate(Operation::AddWithCarry), ALL)?;
+    two(&rt, "SUB", Two::Operate(Operation::Subtract), ALL)?;
+    two(&rt, "SBC", Two::Operate(Operation::SubtractWithCarry), ALL)?;
+    two(&rt, "AND", Two::Operate(Operation::And), ALL)?;
+    two(&rt, "XOR", Two::Operate(Operation::Xor), ALL)?;
+    two(&rt, "OR", Two::Operate(Operation::Or), ALL)?;
+    two(&rt, "CP", Two::Operate(Operation::Compare), ALL)?;
+    two(&rt, "TST", Two::Test, ALL)?;
+    one(&rt, "NEG", One::Negate, ALL)?;
+    one(&rt, "CPL", One::Complement, ALL)?;
+    one(&rt, "SCF", One::SetCarry, ALL)?;
+    one(&rt, "CCF", One::ComplementCarry, NOT_HALF)?;
+    one(&rt, "INC", One::Increment, ALL)?;
+    one(&rt, "DEC", One::Decrement, ALL)?;
+    one(&rt, "DAA", One::Adjust, ALL)?;
+    rotates(&rt)?;
+    bits(&rt)?;
+    blocks(&rt)?;
+    words(&rt)
+}
