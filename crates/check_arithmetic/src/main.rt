@@ -36,17 +36,25 @@ fn two(rt: &LibcRuntime, name: &str, operation: Two, mask: u8) -> io::Result<()>
 }
 
 fn rotates(rt: &LibcRuntime) -> io::Result<()> {
-    one(rt, "RLC", One::Rotate(Rotate::Rlc), ALL)?;
-    one(rt, "RRC", One::Rotate(Rotate::Rrc), ALL)?;
-    one(rt, "RL", One::Rotate(Rotate::Rl), ALL)?;
-    one(rt, "RR", One::Rotate(Rotate::Rr), ALL)?;
-    one(rt, "SLA", One::Rotate(Rotate::Sla), ALL)?;
-    one(rt, "SRA", One::Rotate(Rotate::Sra), ALL)?;
-    one(rt, "SRL", One::Rotate(Rotate::Srl), ALL)?;
-    one(rt, "RLCA", One::Accumulator(Rotate::Rlc), ALL)?;
-    one(rt, "RRCA", One::Accumulator(Rotate::Rrc), ALL)?;
-    one(rt, "RLA", One::Accumulator(Rotate::Rl), ALL)?;
-    one(rt, "RRA", One::Accumulator(Rotate::Rr), ALL)?;
+    for (name, rotate) in [
+        ("RLC", Rotate::Rlc),
+        ("RRC", Rotate::Rrc),
+        ("RL", Rotate::Rl),
+        ("RR", Rotate::Rr),
+        ("SLA", Rotate::Sla),
+        ("SRA", Rotate::Sra),
+        ("SRL", Rotate::Srl),
+    ] {
+        one(rt, name, One::Rotate(rotate), ALL)?;
+    }
+    for (name, rotate) in [
+        ("RLCA", Rotate::Rlc),
+        ("RRCA", Rotate::Rrc),
+        ("RLA", Rotate::Rl),
+        ("RRA", Rotate::Rr),
+    ] {
+        one(rt, name, One::Accumulator(rotate), ALL)?;
+    }
     for (name, digits) in [("RLD", Digits::Left), ("RRD", Digits::Right)] {
         let sum = digits.sum(ALL);
         println!(rt, "{name} {ALL:02X} {sum:08X}")?;
@@ -94,23 +102,35 @@ fn words(rt: &LibcRuntime) -> io::Result<()> {
     Ok(())
 }
 
+fn operations(rt: &LibcRuntime) -> io::Result<()> {
+    for (name, operation) in [
+        ("ADD", Operation::Add),
+        ("ADC", Operation::AddWithCarry),
+        ("SUB", Operation::Subtract),
+        ("SBC", Operation::SubtractWithCarry),
+        ("AND", Operation::And),
+        ("XOR", Operation::Xor),
+        ("OR", Operation::Or),
+        ("CP", Operation::Compare),
+    ] {
+        two(rt, name, Two::Operate(operation), ALL)?;
+    }
+    two(rt, "TST", Two::Test, ALL)
+}
+
+fn accumulator(rt: &LibcRuntime) -> io::Result<()> {
+    one(rt, "NEG", One::Negate, ALL)?;
+    one(rt, "CPL", One::Complement, ALL)?;
+    one(rt, "SCF", One::SetCarry, ALL)?;
+    one(rt, "CCF", One::ComplementCarry, NOT_HALF)?;
+    one(rt, "INC", One::Increment, ALL)?;
+    one(rt, "DEC", One::Decrement, ALL)?;
+    one(rt, "DAA", One::Adjust, ALL)
+}
+
 fn main(rt: LibcRuntime) -> io::Result<()> {
-    two(&rt, "ADD", Two::Operate(Operation::Add), ALL)?;
-    two(&rt, "ADC", Two::Operate(Operation::AddWithCarry), ALL)?;
-    two(&rt, "SUB", Two::Operate(Operation::Subtract), ALL)?;
-    two(&rt, "SBC", Two::Operate(Operation::SubtractWithCarry), ALL)?;
-    two(&rt, "AND", Two::Operate(Operation::And), ALL)?;
-    two(&rt, "XOR", Two::Operate(Operation::Xor), ALL)?;
-    two(&rt, "OR", Two::Operate(Operation::Or), ALL)?;
-    two(&rt, "CP", Two::Operate(Operation::Compare), ALL)?;
-    two(&rt, "TST", Two::Test, ALL)?;
-    one(&rt, "NEG", One::Negate, ALL)?;
-    one(&rt, "CPL", One::Complement, ALL)?;
-    one(&rt, "SCF", One::SetCarry, ALL)?;
-    one(&rt, "CCF", One::ComplementCarry, NOT_HALF)?;
-    one(&rt, "INC", One::Increment, ALL)?;
-    one(&rt, "DEC", One::Decrement, ALL)?;
-    one(&rt, "DAA", One::Adjust, ALL)?;
+    operations(&rt)?;
+    accumulator(&rt)?;
     rotates(&rt)?;
     bits(&rt)?;
     blocks(&rt)?;
