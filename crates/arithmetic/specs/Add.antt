@@ -27,13 +27,21 @@ sum-overflows m a b v = alike (negative m a) (negative m b) && not (alike (negat
 abbrev pub difference-overflows : ℕ → ℕ → ℕ → ℕ → Bool
 difference-overflows m a b v = not (alike (negative m a) (negative m b)) && not (alike (negative m a) (negative m v))
 
--- H is a carry out of the low digit.
-abbrev pub plus : ℕ → ℕ → Bool → Flags → ℕ × Flags
-plus a b k f = (sum 256 a b k, row f (negative 256 (sum 256 a b k)) (zero (sum 256 a b k)) (carries 16 (a % 16) (b % 16) k) (sum-overflows 256 a b (sum 256 a b k)) false (carries 256 a b k))
+-- The row of a sum v of bytes. H is a carry out of the low digit.
+abbrev pub sum-row : ℕ → ℕ → Bool → ℕ → Flags → Flags
+sum-row a b k v f =
+    row f (negative 256 v) (zero v) (carries 16 (a % 16) (b % 16) k) (sum-overflows 256 a b v) false (carries 256 a b k)
 
--- H is a borrow into the low digit.
+abbrev pub plus : ℕ → ℕ → Bool → Flags → ℕ × Flags
+plus a b k f = (sum 256 a b k, sum-row a b k (sum 256 a b k) f)
+
+-- The row of a difference v of bytes. H is a borrow into the low digit.
+abbrev pub difference-row : ℕ → ℕ → Bool → ℕ → Flags → Flags
+difference-row a b k v f =
+    row f (negative 256 v) (zero v) (borrows (a % 16) (b % 16) k) (difference-overflows 256 a b v) true (borrows a b k)
+
 abbrev pub minus : ℕ → ℕ → Bool → Flags → ℕ × Flags
-minus a b k f = (difference 256 a b k, row f (negative 256 (difference 256 a b k)) (zero (difference 256 a b k)) (borrows (a % 16) (b % 16) k) (difference-overflows 256 a b (difference 256 a b k)) true (borrows a b k))
+minus a b k f = (difference 256 a b k, difference-row a b k (difference 256 a b k) f)
 
 abbrev pub add : ℕ → ℕ → Flags → ℕ × Flags
 add a b f = plus a b false f

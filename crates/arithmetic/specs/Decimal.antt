@@ -19,6 +19,10 @@ correction a f = cond (low a f) 6 0 + cond (high a f) 96 0
 abbrev pub adjusted : ℕ → Flags → ℕ
 adjusted a f = cond (f .n) (a + 256 - correction a f) (a + correction a f) % 256
 
--- S, Z and even parity of the result; H is 1 if bit 4 turned; N stays; C is 1 if 60H was used.
+-- S, Z and even parity of the result v; H is 1 if bit 4 turned; N stays; C is 1 if 60H was used.
+abbrev pub adjust-row : ℕ → ℕ → Flags → Flags
+adjust-row a v f =
+    row f (negative 256 v) (zero v) (not (alike (has 16 a) (has 16 v))) (even-parity v) (f .n) (high a f)
+
 abbrev pub adjust : ℕ → Flags → ℕ × Flags
-adjust a f = (adjusted a f, row f (negative 256 (adjusted a f)) (zero (adjusted a f)) (not (alike (has 16 a) (has 16 (adjusted a f)))) (even-parity (adjusted a f)) (f .n) (high a f))
+adjust a f = (adjusted a f, adjust-row a (adjusted a f) f)

@@ -22,10 +22,22 @@ has w x = odd (x / w)
 
 -- F as a byte: S in bit 7, Z 6, H 4, P/V 2, N 1, C 0.
 abbrev pub byte : Flags → ℕ
-byte f = bit (f .s) * 128 + bit (f .z) * 64 + bit (f .bit5) * 32 + bit (f .h) * 16 + bit (f .bit3) * 8 + bit (f .pv) * 4 + bit (f .n) * 2 + bit (f .c)
+byte f =
+    bit (f .s) * 128 + bit (f .z) * 64 + bit (f .bit5) * 32 + bit (f .h) * 16
+    + bit (f .bit3) * 8 + bit (f .pv) * 4 + bit (f .n) * 2 + bit (f .c)
 
 abbrev pub from : ℕ → Flags
-from x = record { s = has 128 x; z = has 64 x; bit5 = has 32 x; h = has 16 x; bit3 = has 8 x; pv = has 4 x; n = has 2 x; c = odd x }
+from x =
+    record {
+      s = has 128 x;
+      z = has 64 x;
+      bit5 = has 32 x;
+      h = has 16 x;
+      bit3 = has 8 x;
+      pv = has 4 x;
+      n = has 2 x;
+      c = odd x;
+    }
 
 -- A row of the data book: S, Z, H, P/V, N and C as an operation leaves them; bits 5 and 3 stay.
 abbrev pub row : Flags → Bool → Bool → Bool → Bool → Bool → Bool → Flags

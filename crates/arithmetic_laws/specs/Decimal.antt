@@ -15,10 +15,18 @@ packed x = x / 10 * 16 + x % 10
 abbrev pub adjusted : ℕ × Flags → ℕ × Flags
 adjusted r = adjust (r .0) (r .1)
 
+-- The packed number x, with this C.
+abbrev pub Reads : ℕ → Bool → ℕ × Flags → Type 0
+Reads x c r = (r .0 ≡ packed x) × (r .1 .c ≡ c)
+
 -- Behind the sum of two packed numbers it gives the decimal sum, and C if that passes 99.
 abbrev pub Sum : Type 0
-Sum = (x y : ℕ) (k : Bool) (f : Flags) → x < 100 → y < 100 → (adjusted (plus (packed x) (packed y) k f) .0 ≡ packed ((x + y + bit k) % 100)) × (adjusted (plus (packed x) (packed y) k f) .1 .c ≡ leb 100 (x + y + bit k))
+Sum =
+    (x y : ℕ) (k : Bool) (f : Flags) → x < 100 → y < 100 →
+    Reads ((x + y + bit k) % 100) (leb 100 (x + y + bit k)) (adjusted (plus (packed x) (packed y) k f))
 
 -- Behind the difference it gives the decimal difference, and C if that falls below 0.
 abbrev pub Difference : Type 0
-Difference = (x y : ℕ) (k : Bool) (f : Flags) → x < 100 → y < 100 → (adjusted (minus (packed x) (packed y) k f) .0 ≡ packed ((x + 100 - (y + bit k)) % 100)) × (adjusted (minus (packed x) (packed y) k f) .1 .c ≡ ltb x (y + bit k))
+Difference =
+    (x y : ℕ) (k : Bool) (f : Flags) → x < 100 → y < 100 →
+    Reads ((x + 100 - (y + bit k)) % 100) (ltb x (y + bit k)) (adjusted (minus (packed x) (packed y) k f))

@@ -8,16 +8,19 @@ use Rattle.arithmetic.specs.declared.flags.Flags.{Flags}
 
 -- They undo each other.
 abbrev pub Undone : Type 0
-Undone = (v : ℕ) (f g : Flags) → v < 256 → (decrement (increment v f .0) g .0 ≡ v) × (increment (decrement v f .0) g .0 ≡ v)
+Undone =
+    (v : ℕ) (f g : Flags) → v < 256 →
+    (decrement (increment v f .0) g .0 ≡ v) × (increment (decrement v f .0) g .0 ≡ v)
 
--- Increment overflows exactly at 80H, and hands a carry to the high digit exactly where the low one becomes 0; C stays.
-abbrev pub Incremented : Type 0
-Incremented = (v : ℕ) (f : Flags) → v < 256 → Decides (increment v f .1 .pv) (increment v f .0 ≡ 128) × Decides (increment v f .1 .h) (increment v f .0 % 16 ≡ 0) × (increment v f .1 .c ≡ f .c)
+-- P/V is 1 exactly if the result is the byte at which the sign turns, H exactly if its low digit went round; C stays.
+abbrev pub Steps : ℕ → ℕ → Flags → ℕ × Flags → Type 0
+Steps turn digit f r = Decides (r .1 .pv) (r .0 ≡ turn) × Decides (r .1 .h) (r .0 % 16 ≡ digit) × (r .1 .c ≡ f .c)
 
--- Decrement overflows exactly at 7FH, and borrows from the high digit exactly where the low one becomes FH; C stays.
-abbrev pub Decremented : Type 0
-Decremented = (v : ℕ) (f : Flags) → v < 256 → Decides (decrement v f .1 .pv) (decrement v f .0 ≡ 127) × Decides (decrement v f .1 .h) (decrement v f .0 % 16 ≡ 15) × (decrement v f .1 .c ≡ f .c)
+abbrev pub Stepped : Type 0
+Stepped = (v : ℕ) (f : Flags) → v < 256 → Steps 0x80 0x0 f (increment v f) × Steps 0x7F 0xF f (decrement v f)
 
--- A byte and its negative add up to 0; only 80H has none, and overflows; C is 1 but for 0.
+-- A byte and its negative add up to 0; only 80H is its own and overflows; C is 1 but for 0.
 abbrev pub Negated : Type 0
-Negated = (a : ℕ) (f : Flags) → a < 256 → ((a + negate a f .0) % 256 ≡ 0) × Decides (negate a f .1 .pv) (a ≡ 128) × Decides (negate a f .1 .c) (0 < a)
+Negated =
+    (a : ℕ) (f : Flags) → a < 256 →
+    ((a + negate a f .0) % 256 ≡ 0) × Decides (negate a f .1 .pv) (a ≡ 0x80) × Decides (negate a f .1 .c) (0 < a)

@@ -1,28 +1,31 @@
--- What sums and differences of words obey. Assumes nothing.
+-- What sums and differences of words, and products, obey. Assumes nothing.
 use mathlib.Core.Path.{_≡_}
 use Prim.Native.Nat.{ℕ, _+_, _*_, _<_}
 use lib.IntN.{pos, _+ℤ_, _-ℤ_}
-use Rattle.std.specs.Orderings.{Decides}
 use Rattle.arithmetic.specs.Flags.{bit}
 use Rattle.arithmetic.specs.Multiply.{multiply}
 use Rattle.arithmetic.specs.Wide.{add, add-with-carry, subtract-with-carry}
 use Rattle.arithmetic.specs.declared.flags.Flags.{Flags}
-use Rattle.arithmetic_laws.specs.Signed.{signed, outside}
+use Rattle.arithmetic_laws.specs.Results.{Holds-sum, Holds-difference, Overflows, Shows, signed}
 
 -- C is what the word does not hold of a sum, and what it lacks for a difference.
 abbrev pub Carried : Type 0
-Carried = (a b : ℕ) (f : Flags) → a < 65536 → b < 65536 → (a + b ≡ add a b f .0 + 65536 * bit (add a b f .1 .c)) × (a + b + bit (f .c) ≡ add-with-carry a b f .0 + 65536 * bit (add-with-carry a b f .1 .c)) × (a + 65536 * bit (subtract-with-carry a b f .1 .c) ≡ subtract-with-carry a b f .0 + b + bit (f .c))
+Carried =
+    (a b : ℕ) (f : Flags) → a < 65536 → b < 65536 →
+    Holds-sum 65536 (a + b) (add a b f)
+    × Holds-sum 65536 (a + b + bit (f .c)) (add-with-carry a b f)
+    × Holds-difference 65536 a (b + bit (f .c)) (subtract-with-carry a b f)
 
 -- Overflow is exactly a true signed result outside −32,768..32,767.
 abbrev pub Overflowed : Type 0
-Overflowed = (a b : ℕ) (f : Flags) → a < 65536 → b < 65536 → (add-with-carry a b f .1 .pv ≡ outside 32768 (signed 32768 a +ℤ signed 32768 b +ℤ pos (bit (f .c)))) × (subtract-with-carry a b f .1 .pv ≡ outside 32768 (signed 32768 a -ℤ signed 32768 b -ℤ pos (bit (f .c))))
+Overflowed =
+    (a b : ℕ) (f : Flags) → a < 65536 → b < 65536 →
+    Overflows 32768 (signed 32768 a +ℤ signed 32768 b +ℤ pos (bit (f .c))) (add-with-carry a b f)
+    × Overflows 32768 (signed 32768 a -ℤ signed 32768 b -ℤ pos (bit (f .c))) (subtract-with-carry a b f)
 
 -- S is bit 15, and Z speaks of all sixteen bits.
-abbrev pub Shows : ℕ × Flags → Type 0
-Shows r = Decides (r .1 .s) (32767 < r .0) × Decides (r .1 .z) (r .0 ≡ 0)
-
 abbrev pub Shown : Type 0
-Shown = (a b : ℕ) (f : Flags) → Shows (add-with-carry a b f) × Shows (subtract-with-carry a b f)
+Shown = (a b : ℕ) (f : Flags) → Shows 32768 (add-with-carry a b f) × Shows 32768 (subtract-with-carry a b f)
 
 -- Multiplication is the product, which a word holds; no flag changes.
 abbrev pub Product : Type 0

@@ -26,8 +26,7 @@ pub fn wide_laws()
 
 pub fn increment_laws()
     ensures undone { λ _. ⌜ increment.Undone ⌝ }
-    ensures incremented { λ _. ⌜ increment.Incremented ⌝ }
-    ensures decremented { λ _. ⌜ increment.Decremented ⌝ }
+    ensures stepped { λ _. ⌜ increment.Stepped ⌝ }
     ensures negated { λ _. ⌜ increment.Negated ⌝ }
 {}
 
