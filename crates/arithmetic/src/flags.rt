@@ -74,13 +74,6 @@ impl Flags {
 pub fn even_parity(byte: u8) -> bool
     ensures { λ r. ⌜ r ≡ of.even-parity byte ⌝ }
 {
-    let ones = byte % 2
-        + byte / 2 % 2
-        + byte / 4 % 2
-        + byte / 8 % 2
-        + byte / 16 % 2
-        + byte / 32 % 2
-        + byte / 64 % 2
-        + byte / 128;
+    let ones = byte.count_ones();
     ones % 2 == 0
 }
