@@ -183,7 +183,6 @@ int main(void)
     static const char *eight[] = {"ADD", "ADC", "SUB", "SBC", "AND", "XOR", "OR", "CP"};
     static const char *rotate[] = {"RLC", "RRC", "RL", "RR", "SLA", "SRA", 0, "SRL"};
     static const char *accumulator[] = {"RLCA", "RRCA", "RLA", "RRA"};
-    char name[16];
     cpu = z80ex_create(rd, 0, wr, 0, in, 0, out, 0, iv, 0);
     for (int i = 0; i < 8; i++) two(eight[i], 0x80 + 8 * i, 0);
     two("TST", 0xA0, 1);
@@ -198,9 +197,12 @@ int main(void)
     for (int i = 0; i < 4; i++) one(accumulator[i], 8 * i + 7, 0, 0xD7);
     digits("RLD", 0x6F);
     digits("RRD", 0x67);
-    for (int i = 0; i < 8; i++) { sprintf(name, "BIT %d", i); one(name, 0xCB, 0x47 + 8 * i, 0x53); }
-    for (int i = 0; i < 8; i++) { sprintf(name, "RES %d", i); one(name, 0xCB, 0x87 + 8 * i, 0xFF); }
-    for (int i = 0; i < 8; i++) { sprintf(name, "SET %d", i); one(name, 0xCB, 0xC7 + 8 * i, 0xFF); }
+    for (int i = 0; i < 8; i++) {
+        printf("bit %d\n", i);
+        one("BIT", 0xCB, 0x47 + 8 * i, 0x53);
+        one("RES", 0xCB, 0x87 + 8 * i, 0xFF);
+        one("SET", 0xCB, 0xC7 + 8 * i, 0xFF);
+    }
     compare("CPI, BC = 0", 0xA1, 0);
     compare("CPI, BC > 0", 0xA1, 1);
     transfer("LDI, BC = 0", 0xA0, 0);

@@ -25,14 +25,16 @@ const COUNTED: u8 = 0x42;
 // The whole of F, where no flag changes.
 const WHOLE: u8 = 0xFF;
 
-fn one(rt: &LibcRuntime, name: &str, operation: One, mask: u8) -> io::Result<()> {
-    let sum = operation.sum(mask);
+fn row(rt: &LibcRuntime, name: &str, mask: u8, sum: u32) -> io::Result<()> {
     println!(rt, "{name} {mask:02X} {sum:08X}")
 }
 
+fn one(rt: &LibcRuntime, name: &str, operation: One, mask: u8) -> io::Result<()> {
+    row(rt, name, mask, operation.sum(mask))
+}
+
 fn two(rt: &LibcRuntime, name: &str, operation: Two, mask: u8) -> io::Result<()> {
-    let sum = operation.sum(mask);
-    println!(rt, "{name} {mask:02X} {sum:08X}")
+    row(rt, name, mask, operation.sum(mask))
 }
 
 fn rotates(rt: &LibcRuntime) -> io::Result<()> {
@@ -56,24 +58,17 @@ fn rotates(rt: &LibcRuntime) -> io::Result<()> {
         one(rt, name, One::Accumulator(rotate), ALL)?;
     }
     for (name, digits) in [("RLD", Digits::Left), ("RRD", Digits::Right)] {
-        let sum = digits.sum(ALL);
-        println!(rt, "{name} {ALL:02X} {sum:08X}")?;
+        row(rt, name, ALL, digits.sum(ALL))?;
     }
     Ok(())
 }
 
 fn bits(rt: &LibcRuntime) -> io::Result<()> {
     for number in 0..8u8 {
-        let sum = One::Test(number).sum(TESTED);
-        println!(rt, "BIT {number} {TESTED:02X} {sum:08X}")?;
-    }
-    for number in 0..8u8 {
-        let sum = One::Reset(number).sum(WHOLE);
-        println!(rt, "RES {number} {WHOLE:02X} {sum:08X}")?;
-    }
-    for number in 0..8u8 {
-        let sum = One::Set(number).sum(WHOLE);
-        println!(rt, "SET {number} {WHOLE:02X} {sum:08X}")?;
+        println!(rt, "bit {number}")?;
+        one(rt, "BIT", One::Test(number), TESTED)?;
+        one(rt, "RES", One::Reset(number), WHOLE)?;
+        one(rt, "SET", One::Set(number), WHOLE)?;
     }
     Ok(())
 }
@@ -96,8 +91,7 @@ fn words(rt: &LibcRuntime) -> io::Result<()> {
         ("ADC HL", Wide::AddWithCarry),
         ("SBC HL", Wide::SubtractWithCarry),
     ] {
-        let sum = operation.sum(NOT_HALF);
-        println!(rt, "{name} {NOT_HALF:02X} {sum:08X}")?;
+        row(rt, name, NOT_HALF, operation.sum(NOT_HALF))?;
     }
     Ok(())
 }
