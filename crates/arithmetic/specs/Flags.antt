@@ -39,7 +39,7 @@ from x =
       c = odd x;
     }
 
--- A row of the data book: S, Z, H, P/V, N and C as an operation leaves them; bits 5 and 3 stay.
+-- A row of flags: S, Z, H, P/V, N and C, in this order, as an operation leaves them; bits 5 and 3 stay.
 abbrev pub row : Flags → Bool → Bool → Bool → Bool → Bool → Bool → Flags
 row f s z h pv n c = record { s = s; z = z; bit5 = f .bit5; h = h; bit3 = f .bit3; pv = pv; n = n; c = c }
 
