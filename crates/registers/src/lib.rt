@@ -1,2 +1,4 @@
-// What the processor holds. So far that is the window, its three memory-mapping bytes.
+// What the processor holds: its registers, the window's three bytes, and the names by which instructions speak of them.
+pub mod operand;
+pub mod registers;
 pub mod window;
