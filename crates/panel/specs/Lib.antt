@@ -1,2 +1,6 @@
 pub mod Panel
 pub mod Script
+pub mod Tracks
+pub mod Chains
+pub mod Links
+pub mod Shown

@@ -5,9 +5,13 @@ ghost use mathlib.Core.Path.{_≡_};
 use crate::line::Line;
 use denial::Denial;
 
+pub mod chain;
 pub mod line;
+pub mod record;
 pub mod script;
 pub mod sent;
+pub mod track;
+pub mod unmade;
 
 // A panel means a state. Every make says by `make` what its states answer and become, and by `state` which one its value
 // means. The state holds everything that any call of the panel can ever show, the host's calls too.

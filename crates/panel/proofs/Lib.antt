@@ -1,0 +1,5 @@
+pub mod Sums
+pub mod Following
+pub mod Tables
+pub mod Joining
+pub mod Finding

@@ -1,0 +1,118 @@
+// The host's calls of the chain panel: it hands the table over, walks the chains, sets key and latch, clears, and has
+// the table back.
+ghost use Rattle.panel.specs.Chains.{cleared, first-number, record-of, used as count, with-key, with-latch};
+ghost use Rattle.panel.specs.Shown.{chain-state, made, making, table-of};
+ghost use Rattle.panel.specs.Tracks.{track-number};
+ghost use Rattle.std.specs.Of.Vec.{vec-items};
+ghost use mathlib.Core.Path.{_≡_};
+use crate::chain::Chain;
+use crate::record::Record;
+use crate::track::Track;
+use crate::unmade::Unmade;
+use denial::Denial;
+
+impl Chain {
+    // A new panel over a table of 2 to 4,096 records, or 4 with the table handed back.
+    pub fn new(table: Vec<Record>) -> Result<Chain, Unmade>
+        ensures { λ r. ⌜ made r ≡ making (vec-items table) ⌝ }
+    {
+        let records = table.len();
+        if records < 2 || records > 4096 {
+            return Err(Unmade {
+                denial: Denial::TableLength,
+                table,
+            });
+        }
+        Ok(Chain {
+            table,
+            firsts: [0; 3],
+            lasts: [0; 3],
+            used: 0,
+            key: 0,
+            latch: false,
+        })
+    }
+
+    // Takes the panel apart.
+    pub fn into_table(self) -> Vec<Record>
+        ensures { λ r. ⌜ vec-items r ≡ table-of self ⌝ }
+    {
+        let Chain {
+            table,
+            firsts: _,
+            lasts: _,
+            used: _,
+            key: _,
+            latch: _,
+        } = self;
+        table
+    }
+
+    // The number of a chain's first record, or 0.
+    pub fn first(&self, track: Track) -> u16
+        ensures { λ r. ⌜ r ≡ first-number (chain-state (now (self .entry)) .chain (track-number track)) ⌝ }
+    {
+        self.firsts[track.number()]
+    }
+
+    // A used record by its number.
+    pub fn record(&self, number: u16) -> Option<Record>
+        ensures { λ r. ⌜ r ≡ record-of (chain-state (now (self .entry))) number ⌝ }
+    {
+        if number == 0 || number > self.used {
+            return None;
+        }
+        Some(self.table[number as usize])
+    }
+
+    // How many records are used.
+    pub fn used(&self) -> u16
+        ensures { λ r. ⌜ r ≡ count (chain-state (now (self .entry)) .chain) ⌝ }
+    {
+        self.used
+    }
+
+    // How many records can be used: all but record 0.
+    pub fn usable(&self) -> u16
+        ensures { λ r. ⌜ r ≡ chain-state (now (self .entry)) .usable ⌝ }
+    {
+        (self.table.len() - 1) as u16
+    }
+
+    pub fn key(&self) -> u8
+        ensures { λ r. ⌜ r ≡ chain-state (now (self .entry)) .key ⌝ }
+    {
+        self.key
+    }
+
+    pub fn set_key(&mut self, key: u8)
+        ensures after { λ _. ⌜ chain-state (now (self .exit)) ≡ with-key key (chain-state (now (self .entry))) ⌝ }
+        ensures table { λ _. ⌜ table-of (now (self .exit)) ≡ table-of (now (self .entry)) ⌝ }
+    {
+        self.key = key;
+    }
+
+    // Whether the stop latch is set.
+    pub fn latch(&self) -> bool
+        ensures { λ r. ⌜ r ≡ chain-state (now (self .entry)) .latch ⌝ }
+    {
+        self.latch
+    }
+
+    pub fn set_latch(&mut self, latch: bool)
+        ensures after { λ _. ⌜ chain-state (now (self .exit)) ≡ with-latch latch (chain-state (now (self .entry))) ⌝ }
+        ensures table { λ _. ⌜ table-of (now (self .exit)) ≡ table-of (now (self .entry)) ⌝ }
+    {
+        self.latch = latch;
+    }
+
+    // Empties the chains. The table keeps its bytes, and the next write takes record 1 again.
+    pub fn clear(&mut self)
+        ensures after { λ _. ⌜ chain-state (now (self .exit)) ≡ cleared (chain-state (now (self .entry))) ⌝ }
+        ensures table { λ _. ⌜ table-of (now (self .exit)) ≡ table-of (now (self .entry)) ⌝ }
+    {
+        self.firsts = [0; 3];
+        self.lasts = [0; 3];
+        self.used = 0;
+    }
+}
