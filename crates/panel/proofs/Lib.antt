@@ -3,3 +3,4 @@ pub mod Following
 pub mod Tables
 pub mod Joining
 pub mod Finding
+pub mod Histories

@@ -4,3 +4,4 @@ pub mod Tracks
 pub mod Chains
 pub mod Links
 pub mod Shown
+pub mod History

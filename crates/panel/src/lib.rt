@@ -6,6 +6,7 @@ use crate::line::Line;
 use denial::Denial;
 
 pub mod chain;
+pub mod laws;
 pub mod line;
 pub mod record;
 pub mod script;
