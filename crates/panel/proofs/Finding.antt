@@ -7,8 +7,9 @@ use Prim.Native.Nat.{ℕ, zero, suc, _+_, _≤_, _<_}
 use native.Mathlib.Omega.{arith}
 use lib.Dec.{eqb, leb, ltb}
 use lib.ListN.{getD}
-use Rattle.std.proofs.shelf.Tests.{cond-both, cond-false, cases-lt, eqb-true, ne-eqb}
+use Rattle.std.proofs.shelf.Tests.{both-ways, cond-both, cond-false, cases-eq, cases-lt, eqb-true, ne-eqb}
 use Rattle.std.proofs.shelf.Ways.{tells}
+use Rattle.std.specs.Options.{isSome}
 use Rattle.std.specs.declared.option.Option.{Option}
 use Rattle.std.specs.declared.option.Option.the-variants.{Some, None}
 use Rattle.panel.specs.declared.record.Record.{Record}
@@ -16,8 +17,10 @@ use Rattle.panel.specs.declared.chain.Chain.{Chain}
 use Rattle.panel.specs.Chains.{Entry, sum-below, first-number, on-chain, on-any, or-else, record-of}
 use Rattle.panel.specs.Links.{row, chains-in, count-of}
 use Rattle.panel.specs.Shown.{chain-state, table-of}
+use Rattle.panel.specs.Walking.{listed, walked}
 use Rattle.panel.proofs.Following.{Leads, apart-from, leads-first}
-use Rattle.panel.proofs.Tables.{well}
+use Rattle.panel.proofs.Tables.{few, in-use, well}
+use Rattle.panel.proofs.Walks.{walked-is}
 use Rattle.panel.proofs.Joining.{short-here, null-here}
 
 absent : (n : ℕ) (es : List Entry) → count-of n es ≡ 0 → on-chain es n ≡ None
@@ -52,6 +55,11 @@ module _ (p : Chain) where
   leads : (k : ℕ) → Leads (table-of p) (getD (p .firsts) k 0) (chain-state p .chain k)
   leads = well (table-of p) (p .firsts) (short-here p) (null-here p)
 
+  -- a record on a chain is not record 0
+  positive : (i k : ℕ) → 0 < count-of i (chain-state p .chain k) → 0 < i
+  positive zero k on = absurd (omega (arith, null-here p k))
+  positive (suc i) k on = omega arith
+
   pub first-is : (k : ℕ) → getD (p .firsts) k 0 ≡ first-number (chain-state p .chain k)
   first-is k = leads-first (table-of p) (getD (p .firsts) k 0) (chain-state p .chain k) (leads k)
 
@@ -65,3 +73,25 @@ module _ (p : Chain) where
       let z : cond {A = ℕ} (ltb 0 n && leb n (p .used)) 1 0 ≡ 1 = grind (arith, tells) in
       let o = p .once n in
       sym (present-below (table-of p) (λ k. getD (p .firsts) k 0) (chain-state p .chain) leads n 3 (omega arith))
+
+  -- what the host finds under a number is what stands in the table
+  pub record-found : (n : ℕ) → isSome (record-of (chain-state p) n) ≡ true → record-of (chain-state p) n ≡ Some (row (table-of p) n)
+  record-found n h =
+      ⊎-elim
+      (λ (past : p .used < n). absurd (both-ways _ (ap isSome (sym (record-none n (inr past)))) h))
+      (λ within.
+      ⊎-elim
+      (λ (z : n ≡ 0). absurd (both-ways _ (ap isSome (sym (record-none n (inl z)))) h))
+      (λ (ne : n ≡ 0 → ⊥). let low : 0 < n = omega arith in sym (record-some n low within))
+      (cases-eq n 0))
+      (cases-lt (p .used) n)
+
+  -- a walk of as many steps as records are used meets a whole chain
+  pub walk-is : (k n : ℕ) → n ≡ first-number (chain-state p .chain k) → walked (chain-state p) (p .used) n ≡ listed (chain-state p .chain k)
+  walk-is k n first =
+      let firsts = p .firsts in
+      let used-here = in-use (table-of p) firsts (p .used) (p .three .0) (p .room) (p .total) (p .once) in
+      ap (walked (chain-state p) (p .used)) (first ∙ sym (first-is k))
+      ∙ walked-is (chain-state p) (table-of p) (sym (record-none 0 (inl refl))) (p .used) (getD firsts k 0) (chain-state p .chain k) (leads k)
+      (λ i on. sym (record-some i (positive i k on) (used-here i k on)))
+      (few (table-of p) firsts (p .used) (p .three .0) (p .room) (p .total) (p .once) k)

@@ -86,8 +86,11 @@ module _ (t : List Record) (fs : List ℕ) (u : ℕ) (three : length fs ≡ 3) (
   none : (k : ℕ) → 3 ≤ k → chains-in t fs k ≡ []
   none k h = followed-is t (length t) (getD fs k 0) [] (getD-past fs k 0 (omega arith)) refl (omega arith)
 
+  pub few : (k : ℕ) → length (chains-in t fs k) ≤ u
+  few k = omega (arith, part 3 (λ j. length (chains-in t fs j)) (λ j h. ap length (none j h)) k)
+
   pub short : (k : ℕ) → length (chains-in t fs k) < length t
-  short k = omega (arith, part 3 (λ j. length (chains-in t fs j)) (λ j h. ap length (none j h)) k)
+  short k = omega (arith, few k)
 
   rare : (i k : ℕ) → count-of i (chains-in t fs k) ≤ cond (ltb 0 i && leb i u) 1 0
   rare i k = omega (arith, once i, part 3 (λ j. count-of i (chains-in t fs j)) (λ j h. ap (count-of i) (none j h)) k)

@@ -11,6 +11,7 @@ use crate::record::Record;
 pub mod host;
 pub mod panel;
 mod recording;
+pub mod walk;
 
 // Nothing is presumed of the bytes of the table that was handed over: record 0 and the records above `used` may hold
 // anything.

@@ -1,11 +1,18 @@
 // The host's calls of the chain panel: it hands the table over, walks the chains, sets key and latch, clears, and has
 // the table back.
+ghost use Prim.Native.Nat.{ℕ};
 ghost use Rattle.panel.specs.Chains.{cleared, first-number, record-of, used as count, with-key, with-latch};
+ghost use Rattle.panel.specs.Links.{row};
 ghost use Rattle.panel.specs.Shown.{chain-state, made, making, table-of};
 ghost use Rattle.panel.specs.Tracks.{track-number};
+ghost use Rattle.panel.specs.Walking.{left-to-walk, listed};
 ghost use Rattle.std.specs.Of.Vec.{vec-items};
+ghost use Rattle.std.specs.Options.{isSome};
+ghost use Rattle.std.specs.declared.option.Option.the-variants.{Some};
+ghost use mathlib.Core.Bool.{true};
 ghost use mathlib.Core.Path.{_≡_};
 use crate::chain::Chain;
+use crate::chain::walk::Walk;
 use crate::record::Record;
 use crate::track::Track;
 use crate::unmade::Unmade;
@@ -33,9 +40,10 @@ impl Chain {
         })
     }
 
-    // Takes the panel apart.
+    // Takes the panel apart. The table has each used record at its number.
     pub fn into_table(self) -> Vec<Record>
-        ensures { λ r. ⌜ vec-items r ≡ table-of self ⌝ }
+        ensures table { λ r. ⌜ vec-items r ≡ table-of self ⌝ }
+        ensures records { λ r. ⌜ ((n : ℕ) → isSome (record-of (chain-state self) n) ≡ true → record-of (chain-state self) n ≡ Some (row (vec-items r) n)) ⌝ }
     {
         let Chain {
             table,
@@ -63,6 +71,17 @@ impl Chain {
             return None;
         }
         Some(self.table[number as usize])
+    }
+
+    // Walks a chain from its first record to its last.
+    pub fn walk(&self, track: Track) -> Walk<'_>
+        ensures { λ r. ⌜ left-to-walk r ≡ listed (chain-state (now (self .entry)) .chain (track-number track)) ⌝ }
+    {
+        Walk {
+            panel: self,
+            number: self.first(track),
+            most: self.used,
+        }
     }
 
     // How many records are used.

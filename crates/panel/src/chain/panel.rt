@@ -34,7 +34,11 @@ pub impl Panel for Chain as ChainPanel {
         0xFF
     }
 
-    fn read(&mut self, port: u16) -> u8 {
+    fn read(&mut self, port: u16) -> u8
+        ensures answer { λ r. ⌜ r ≡ chain-make .answer (chain-state (now (self .entry))) port ⌝ }
+        ensures after { λ _. ⌜ chain-state (now (self .exit)) ≡ chain-make .read (chain-state (now (self .entry))) port ⌝ }
+        ensures table { λ _. ⌜ table-of (now (self .exit)) ≡ table-of (now (self .entry)) ⌝ }
+    {
         if port % 256 == 0x83 { self.key } else { 0xFF }
     }
 
@@ -54,11 +58,18 @@ pub impl Panel for Chain as ChainPanel {
         Ok(())
     }
 
-    fn acknowledge(&mut self, line: Line) {
+    fn acknowledge(&mut self, line: Line)
+        ensures after { λ _. ⌜ chain-state (now (self .exit)) ≡ chain-make .acknowledged (chain-state (now (self .entry))) line ⌝ }
+        ensures table { λ _. ⌜ table-of (now (self .exit)) ≡ table-of (now (self .entry)) ⌝ }
+    {
         if let Line::Nmi = line {
             self.latch = false;
         }
     }
 
-    fn tell(&mut self, _states: u32) {}
+    // Being told states alters nothing.
+    fn tell(&mut self, _states: u32)
+        ensures after { λ _. ⌜ chain-state (now (self .exit)) ≡ chain-make .told (chain-state (now (self .entry))) «_states» ⌝ }
+        ensures table { λ _. ⌜ table-of (now (self .exit)) ≡ table-of (now (self .entry)) ⌝ }
+    {}
 }
