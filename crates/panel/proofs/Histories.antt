@@ -22,7 +22,8 @@ use Rattle.panel.specs.declared.track.Track.the-variants.{Pen, X, Y}
 use Rattle.panel.specs.Tracks.{low-byte, track-of, track-number}
 use Rattle.panel.specs.Chains.{Entry, State, used, is-full, fresh-number, appended, last-number, recorded, chain-written, new-chain}
 use Rattle.panel.specs.Links.{blank, row, ending, with-next, named, filed, table-written}
-use Rattle.panel.specs.History.{Call, write, read, acknowledge, tell, set-key, set-latch, clear, called, after, noted, accepted-from, panel-after, accepted-since, to-low-byte, is-recorded, numbered-from, sent-of, History-laws, Is-last, Table-laws}
+use Rattle.panel.specs.Acts.{Act, read, write, acknowledge, tell}
+use Rattle.panel.specs.History.{Call, by-card, set-key, set-latch, clear, called, after, noted, accepted-from, panel-after, accepted-since, to-low-byte, is-recorded, numbered-from, sent-of, History-laws, Is-last, Table-laws}
 use Rattle.panel.proofs.Tables.{appended-here, appended-there, used-appended}
 
 -- The track of a port: one whose low byte it has, or none, if it is not recorded.
@@ -137,17 +138,17 @@ module _ (usable : ℕ) (s : State) (ws : List Sent) (h : Keeps usable s ws) (po
   keeps-write = track-cases port (λ o. Keeps usable (recorded s o port byte) (ws ++ w ∷ [])) keeps-on keeps-off
 
 keeps-call : (usable : ℕ) (s : State) (ws : List Sent) (c : Call) → Keeps usable s ws → Keeps usable (called s c) (noted s ws c)
-keeps-call usable s ws (write port byte) h = way (is-full s) refl
+keeps-call usable s ws (by-card (write port byte)) h = way (is-full s) refl
   where
     way : (b : Bool) → is-full s ≡ b → Keeps usable (cond b s (chain-written s port byte)) (cond b ws (ws ++ record { port = port; byte = byte } ∷ []))
     way true full = h
     way false free = keeps-write usable s ws h port byte free
-keeps-call usable s ws (read port) h = h
-keeps-call usable s ws (acknowledge Nmi) h = keeps-still usable s ws (s .key) false h
-keeps-call usable s ws (acknowledge Int0) h = h
-keeps-call usable s ws (acknowledge Int1) h = h
-keeps-call usable s ws (acknowledge Int2) h = h
-keeps-call usable s ws (tell n) h = h
+keeps-call usable s ws (by-card (read port)) h = h
+keeps-call usable s ws (by-card (acknowledge Nmi)) h = keeps-still usable s ws (s .key) false h
+keeps-call usable s ws (by-card (acknowledge Int0)) h = h
+keeps-call usable s ws (by-card (acknowledge Int1)) h = h
+keeps-call usable s ws (by-card (acknowledge Int2)) h = h
+keeps-call usable s ws (by-card (tell states)) h = h
 keeps-call usable s ws (set-key key) h = keeps-still usable s ws key (s .latch) h
 keeps-call usable s ws (set-latch latch) h = keeps-still usable s ws (s .key) latch h
 keeps-call usable s ws clear h = keeps-empty usable _ (h .has) refl

@@ -5,3 +5,4 @@ pub mod Joining
 pub mod Walks
 pub mod Finding
 pub mod Histories
+pub mod Scripting

@@ -8,31 +8,24 @@ use lib.Dec.{eqb, leb}
 use lib.ListN.{length}
 use Rattle.std.specs.shelf.Lists.{kept-by}
 use Rattle.std.specs.declared.option.Option.the-variants.{Some}
-use Rattle.panel.specs.declared.line.Line.{Line}
 use Rattle.panel.specs.declared.record.Record.{Record}
 use Rattle.panel.specs.declared.sent.Sent.{Sent}
 use Rattle.panel.specs.declared.track.Track.{Track}
-use Rattle.panel.specs.Panel.{wrote}
+use Rattle.panel.specs.Acts.{Act, read, write, acknowledge, tell, acted}
 use Rattle.panel.specs.Tracks.{low-byte, track-of, track-number}
 use Rattle.panel.specs.Chains.{Entry, State, used, is-full, fresh-number, last-number, with-key, with-latch, new-chain, cleared, chain-make}
 use Rattle.panel.specs.Links.{row, table-written}
 
--- The calls that may alter a chain panel.
+-- The calls that may alter a chain panel: the card's, and the host's.
 pub data Call : Type 0 where
-  write : ℕ → ℕ → Call
-  read : ℕ → Call
-  acknowledge : Line → Call
-  tell : ℕ → Call
+  by-card : Act → Call
   set-key : ℕ → Call
   set-latch : Bool → Call
   clear : Call
 
 -- The state after a call, and after a list of them.
 abbrev pub called : State → Call → State
-called s (write port byte) = wrote chain-make s port byte
-called s (read port) = chain-make .read s port
-called s (acknowledge line) = chain-make .acknowledged s line
-called s (tell n) = chain-make .told s n
+called s (by-card act) = acted chain-make s act
 called s (set-key key) = with-key key s
 called s (set-latch latch) = with-latch latch s
 called s clear = cleared s
@@ -43,10 +36,10 @@ after s (c ∷ cs) = after (called s c) cs
 
 -- The writes that were accepted since making or clearing, first one first: ws, and then those of the calls.
 abbrev pub noted : State → List Sent → Call → List Sent
-noted s ws (write port byte) = cond (is-full s) ws (ws ++ record { port = port; byte = byte } ∷ [])
-noted s ws (read port) = ws
-noted s ws (acknowledge line) = ws
-noted s ws (tell n) = ws
+noted s ws (by-card (read port)) = ws
+noted s ws (by-card (write port byte)) = cond (is-full s) ws (ws ++ record { port = port; byte = byte } ∷ [])
+noted s ws (by-card (acknowledge line)) = ws
+noted s ws (by-card (tell states)) = ws
 noted s ws (set-key key) = ws
 noted s ws (set-latch latch) = ws
 noted s ws clear = []

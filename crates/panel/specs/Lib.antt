@@ -1,5 +1,7 @@
 pub mod Panel
+pub mod Acts
 pub mod Script
+pub mod Scripted
 pub mod Tracks
 pub mod Chains
 pub mod Links
