@@ -8,9 +8,10 @@ ghost use lib.ListN.{length};
 ghost use mathlib.Core.Path.{_≡_};
 use crate::record::Record;
 
-pub mod host;
+mod host;
 pub mod panel;
 mod recording;
+mod view;
 pub mod walk;
 
 // Nothing is presumed of the bytes of the table that was handed over: record 0 and the records above `used` may hold

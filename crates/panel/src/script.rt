@@ -1,11 +1,10 @@
 // The script panel: it answers reads from a list, keeps the last write, and asks for INT0 once, after so many states.
-ghost use Rattle.panel.specs.Script.{State, new-script, script-make, script-state};
+ghost use Rattle.panel.specs.Script.{new-script, script-state};
 ghost use Rattle.std.specs.Of.Vec.{vec-items};
 ghost use mathlib.Core.Path.{_≡_};
-use crate::Panel;
-use crate::line::Line;
 use crate::sent::Sent;
-use denial::Denial;
+
+pub mod panel;
 
 #[derive(Drop)]
 pub struct Script {
@@ -41,53 +40,5 @@ impl Script {
         ensures { λ r. ⌜ r ≡ script-state (now (self .entry)) .last-write ⌝ }
     {
         self.last_write
-    }
-}
-
-pub impl Panel for Script as ScriptPanel {
-    ghost State = { State };
-
-    ghost make = { script-make };
-
-    ghost state = { script-state };
-
-    fn full(&self) -> bool {
-        false
-    }
-
-    fn asks(&self, line: Line) -> bool {
-        match line {
-            Line::Int0 => self.told >= self.threshold && !self.acknowledged,
-            Line::Nmi | Line::Int1 | Line::Int2 => false,
-        }
-    }
-
-    fn int0_byte(&self) -> u8 {
-        self.int0_byte
-    }
-
-    fn read(&mut self, _port: u16) -> u8 {
-        match self.bytes.get(self.place) {
-            Some(byte) => {
-                self.place += 1;
-                *byte
-            }
-            None => 0xFF,
-        }
-    }
-
-    fn write(&mut self, port: u16, byte: u8) -> Result<(), Denial> {
-        self.last_write = Some(Sent { port, byte });
-        Ok(())
-    }
-
-    fn acknowledge(&mut self, line: Line) {
-        if let Line::Int0 = line {
-            self.acknowledged = true;
-        }
-    }
-
-    fn tell(&mut self, states: u32) {
-        self.told = self.told.saturating_add(states);
     }
 }

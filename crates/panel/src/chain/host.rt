@@ -1,20 +1,15 @@
-// The host's calls of the chain panel: it hands the table over, walks the chains, sets key and latch, clears, and has
-// the table back.
+// The host's part of the chain panel: it hands the table over and has it back, sets key byte and latch, and clears.
 ghost use Prim.Native.Nat.{ℕ};
-ghost use Rattle.panel.specs.Chains.{cleared, first-number, record-of, used as count, with-key, with-latch};
+ghost use Rattle.panel.specs.Chains.{cleared, record-of, with-key, with-latch};
 ghost use Rattle.panel.specs.Links.{row};
 ghost use Rattle.panel.specs.Shown.{chain-state, made, making, table-of};
-ghost use Rattle.panel.specs.Tracks.{track-number};
-ghost use Rattle.panel.specs.Walking.{left-to-walk, listed};
 ghost use Rattle.std.specs.Of.Vec.{vec-items};
 ghost use Rattle.std.specs.Options.{isSome};
 ghost use Rattle.std.specs.declared.option.Option.the-variants.{Some};
 ghost use mathlib.Core.Bool.{true};
 ghost use mathlib.Core.Path.{_≡_};
 use crate::chain::Chain;
-use crate::chain::walk::Walk;
 use crate::record::Record;
-use crate::track::Track;
 use crate::unmade::Unmade;
 use denial::Denial;
 
@@ -56,66 +51,11 @@ impl Chain {
         table
     }
 
-    // The number of a chain's first record, or 0.
-    pub fn first(&self, track: Track) -> u16
-        ensures { λ r. ⌜ r ≡ first-number (chain-state (now (self .entry)) .chain (track-number track)) ⌝ }
-    {
-        self.firsts[track.number()]
-    }
-
-    // A used record by its number.
-    pub fn record(&self, number: u16) -> Option<Record>
-        ensures { λ r. ⌜ r ≡ record-of (chain-state (now (self .entry))) number ⌝ }
-    {
-        if number == 0 || number > self.used {
-            return None;
-        }
-        Some(self.table[number as usize])
-    }
-
-    // Walks a chain from its first record to its last.
-    pub fn walk(&self, track: Track) -> Walk<'_>
-        ensures { λ r. ⌜ left-to-walk r ≡ listed (chain-state (now (self .entry)) .chain (track-number track)) ⌝ }
-    {
-        Walk {
-            panel: self,
-            number: self.first(track),
-            most: self.used,
-        }
-    }
-
-    // How many records are used.
-    pub fn used(&self) -> u16
-        ensures { λ r. ⌜ r ≡ count (chain-state (now (self .entry)) .chain) ⌝ }
-    {
-        self.used
-    }
-
-    // How many records can be used: all but record 0.
-    pub fn usable(&self) -> u16
-        ensures { λ r. ⌜ r ≡ chain-state (now (self .entry)) .usable ⌝ }
-    {
-        (self.table.len() - 1) as u16
-    }
-
-    pub fn key(&self) -> u8
-        ensures { λ r. ⌜ r ≡ chain-state (now (self .entry)) .key ⌝ }
-    {
-        self.key
-    }
-
     pub fn set_key(&mut self, key: u8)
         ensures after { λ _. ⌜ chain-state (now (self .exit)) ≡ with-key key (chain-state (now (self .entry))) ⌝ }
         ensures table { λ _. ⌜ table-of (now (self .exit)) ≡ table-of (now (self .entry)) ⌝ }
     {
         self.key = key;
-    }
-
-    // Whether the stop latch is set.
-    pub fn latch(&self) -> bool
-        ensures { λ r. ⌜ r ≡ chain-state (now (self .entry)) .latch ⌝ }
-    {
-        self.latch
     }
 
     pub fn set_latch(&mut self, latch: bool)

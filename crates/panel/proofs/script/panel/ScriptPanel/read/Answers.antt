@@ -5,7 +5,7 @@ use lib.ListN.{length, drop, getD}
 use Rattle.std.proofs.shelf.Lists.{at-drop-more, at-drop-all}
 use Rattle.std.specs.Of.Vec.{vec-items}
 use Rattle.panel.specs.Script.{next-byte, behind, with-rest, script-state}
-use Rattle.panel.proofs.script.ScriptPanel.read.Needs as need
+use Rattle.panel.proofs.script.panel.ScriptPanel.read.Needs as need
 
 pub returns-in-Some : need.returns-in-Some
 returns-in-Some c =
