@@ -1,21 +1,20 @@
 -- What the host finds on the chains of a panel. Assumes nothing.
 use mathlib.Core.Path.{_≡_, refl, sym, ap, _∙_}
-use mathlib.Core.Bool.{Bool, true, false, cond, _&&_}
+use mathlib.Core.Bool.{true, cond, _&&_}
 use mathlib.Core.List.{List, [], _∷_}
 use mathlib.Core.Logic.{_⊎_, inl, inr, ⊎-elim}
-use Prim.Native.Nat.{ℕ, zero, suc, _+_, _≤_, _<_}
+use Prim.Native.Nat.{ℕ, zero, suc, _≤_, _<_}
 use native.Mathlib.Omega.{arith}
 use lib.Dec.{eqb, leb, ltb}
 use lib.ListN.{getD}
 use Rattle.std.proofs.shelf.Tests.{both-ways, cond-both, cond-false, cases-eq, cases-lt, eqb-true, ne-eqb}
 use Rattle.std.proofs.shelf.Ways.{tells}
 use Rattle.std.specs.Options.{isSome}
-use Rattle.std.specs.declared.option.Option.{Option}
 use Rattle.std.specs.declared.option.Option.the-variants.{Some, None}
 use Rattle.panel.specs.declared.record.Record.{Record}
 use Rattle.panel.specs.declared.chain.Chain.{Chain}
 use Rattle.panel.specs.Chains.{Entry, sum-below, first-number, on-chain, on-any, or-else, record-of}
-use Rattle.panel.specs.Links.{row, chains-in, count-of}
+use Rattle.panel.specs.Links.{row, count-of}
 use Rattle.panel.specs.Shown.{chain-state, table-of}
 use Rattle.panel.specs.Walking.{listed, walked}
 use Rattle.panel.proofs.Following.{Leads, apart-from, leads-first}

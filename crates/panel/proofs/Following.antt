@@ -1,6 +1,6 @@
 -- One chain in a table: what following the next numbers gives, and what a change of the table does to that. Assumes nothing.
 use mathlib.Core.Path.{_≡_, refl, sym, ap, subst, _∙_}
-use mathlib.Core.Bool.{Bool, true, false, cond}
+use mathlib.Core.Bool.{cond}
 use mathlib.Core.List.{List, [], _∷_, _++_}
 use Prim.Native.Nat.{ℕ, zero, suc, _+_, _≤_, _<_}
 use native.Mathlib.Omega.{arith}
@@ -20,6 +20,10 @@ Leads t n (e ∷ es) = (entry-at t n ≡ e) × Leads t (row t n .next) es
 -- the number of the entry that n leads to
 number-is : (t : List Record) (n : ℕ) (e : Entry) → entry-at t n ≡ e → n ≡ e .number
 number-is t n e p = ap (λ x. x .number) p
+
+-- the entry of a record that is the same but for its next number
+entry-kept : (u : List Record) (n : ℕ) (r : Record) (e : Entry) → row u n ≡ r → record { number = n; port = r .port; byte = r .byte } ≡ e → entry-at u n ≡ e
+entry-kept u n r e same is = ap (λ x. record { number = n; port = x .port; byte = x .byte }) same ∙ is
 
 pub leads-first : (t : List Record) (n : ℕ) (es : List Entry) → Leads t n es → n ≡ first-number es
 leads-first t n [] l = l
@@ -56,7 +60,7 @@ leads-still t u n (e ∷ es) same (p, l) =
     let is = number-is t n e p in
     let here : 0 < count-of n (e ∷ es) = grind (arith, tells) in
     let s = same n here in (
-      ap (λ r. record { number = n; port = r .port; byte = r .byte }) s ∙ p,
+      entry-kept u n _ e s p,
       subst (λ r. Leads u (r .next) es) (sym s) (leads-still t u (row t n .next) es (λ i h. same i (omega arith)) l),
     )
 
@@ -90,7 +94,7 @@ module _ (t u : List Record) (x : Entry) (end : Leads u (x .number) (x ∷ [])) 
       ((i : ℕ) → count-of i (e ∷ es) ≤ 1) → Leads t n (e ∷ es) → Leads u n (e ∷ es ++ x ∷ [])
   extended n e [] same link once (p, l) =
       let s = subst (λ m. row u m ≡ with-next (x .number) (row t m)) (sym (number-is t n e p)) link in (
-        ap (λ r. record { number = n; port = r .port; byte = r .byte }) s ∙ p,
+        entry-kept u n _ e s p,
         subst (λ m. Leads u m (x ∷ [])) (sym (ap (λ r. r .next) s)) end,
       )
   extended n e (f ∷ es) same link once (p, l) =
@@ -100,7 +104,7 @@ module _ (t u : List Record) (x : Entry) (end : Leads u (x .number) (x ∷ [])) 
       let ne : n ≡ last-number (f .number) es → ⊥ = grind (arith, tells) in
       let here : 0 < count-of n (e ∷ f ∷ es) = grind (arith, tells) in
       let s = same n here ne in (
-        ap (λ r. record { number = n; port = r .port; byte = r .byte }) s ∙ p,
+        entry-kept u n _ e s p,
         subst (λ r. Leads u (r .next) (f ∷ es ++ x ∷ [])) (sym s)
             (extended (row t n .next) f es (λ i h k. same i (omega arith) k) link (λ i. let h = once i in omega arith) l),
       )

@@ -3,10 +3,10 @@ use mathlib.Core.Path.{_≡_, refl, sym, ap, subst, _∙_}
 use mathlib.Core.Bool.{Bool, true, false, cond, _&&_}
 use mathlib.Core.List.{List, [], _∷_, _++_, map}
 use mathlib.Core.Logic.{_≢_, _⊎_, inl, inr, ⊎-elim}
-use Prim.Native.Nat.{ℕ, zero, suc, _+_, _≤_, _<_}
+use Prim.Native.Nat.{ℕ, suc, _+_, _≤_, _<_}
 use native.Mathlib.Omega.{arith}
 use lib.Dec.{eqb, leb}
-use lib.ListN.{length, getD, set}
+use lib.ListN.{length, set}
 use Rattle.std.specs.shelf.Lists.{kept-by}
 use Rattle.std.proofs.shelf.Elements.{kept-by-append}
 use Rattle.std.proofs.shelf.Lists.{append-nil, getD-set-same, getD-set-other, length-push, length-set, set-past}
@@ -14,6 +14,8 @@ use Rattle.std.proofs.shelf.Tests.{cond-both, cond-false, cond-true, cases-eq, 
 use Rattle.std.proofs.shelf.Ways.{tells}
 use Rattle.std.specs.declared.option.Option.{Option}
 use Rattle.std.specs.declared.option.Option.the-variants.{Some, None}
+use Rattle.std.specs.declared.result.Result.the-variants.{Ok, Err}
+use Rattle.denial.specs.Denials.{numbered}
 use Rattle.panel.specs.declared.line.Line.the-variants.{Nmi, Int0, Int1, Int2}
 use Rattle.panel.specs.declared.record.Record.{Record}
 use Rattle.panel.specs.declared.sent.Sent.{Sent}
@@ -22,8 +24,8 @@ use Rattle.panel.specs.declared.track.Track.the-variants.{Pen, X, Y}
 use Rattle.panel.specs.Tracks.{low-byte, track-of, track-number}
 use Rattle.panel.specs.Chains.{Entry, State, used, is-full, fresh-number, appended, last-number, recorded, chain-written, new-chain}
 use Rattle.panel.specs.Links.{blank, row, ending, with-next, named, filed, table-written}
-use Rattle.panel.specs.Acts.{Act, read, write, acknowledge, tell}
-use Rattle.panel.specs.History.{Call, by-card, set-key, set-latch, clear, called, after, noted, accepted-from, panel-after, accepted-since, to-low-byte, is-recorded, numbered-from, sent-of, History-laws, Is-last, Table-laws}
+use Rattle.panel.specs.Acts.{read, write, acknowledge, tell}
+use Rattle.panel.specs.History.{Call, by-card, set-key, set-latch, clear, called, after, noted, accepted-from, panel-after, accepted-since, to-low-byte, is-recorded, numbered-from, sent-of, History-laws, Table-laws}
 use Rattle.panel.proofs.Tables.{appended-here, appended-there, used-appended}
 
 -- The track of a port: one whose low byte it has, or none, if it is not recorded.
@@ -160,6 +162,9 @@ keeps-calls usable s ws (c ∷ cs) h = keeps-calls usable (called s c) (noted s 
 keeps : (usable : ℕ) (cs : List Call) → Keeps usable (panel-after usable cs) (accepted-since usable cs)
 keeps usable cs = keeps-calls usable (new-chain usable) [] cs (keeps-empty usable (new-chain usable) refl refl)
 
+full-is : (usable : ℕ) (cs : List Call) → is-full (panel-after usable cs) ≡ eqb (length (kept-by is-recorded (accepted-since usable cs))) usable
+full-is usable cs = λ i. eqb (keeps usable cs .count i) (keeps usable cs .has i)
+
 pub history-laws : History-laws
 history-laws = record {
   in-order = λ usable cs track.
@@ -170,7 +175,8 @@ history-laws = record {
       ∙ sent-kept (to-low-byte (128 + k)) 1 (kept-by is-recorded ws)
       ∙ kept-within (to-low-byte (128 + k)) is-recorded (λ w e. let low = eqb-true _ _ e in grind (arith, tells)) ws;
   numbers = λ usable cs track. keeps usable cs .chains (track-number track) (track-below track);
-  full-when = λ usable cs. (λ i. eqb (keeps usable cs .count i) (keeps usable cs .has i));
+  denied-when = λ usable cs. ap (λ b. cond b (Err (numbered 8)) (Ok tt)) (full-is usable cs);
+  full-when = full-is;
   used-is = λ usable cs. keeps usable cs .count;
   used-within = λ usable cs. keeps usable cs .within;
   usable-same = λ usable cs. keeps usable cs .has;

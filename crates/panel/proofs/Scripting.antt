@@ -1,15 +1,15 @@
 -- The laws of a script panel over lists of acts. Assumes nothing.
-use mathlib.Core.Path.{_≡_, refl, sym, ap, _∙_}
-use mathlib.Core.Bool.{Bool, true, false, cond, not, _&&_, _||_}
+use mathlib.Core.Path.{_≡_, refl, ap, _∙_}
+use mathlib.Core.Bool.{Bool, true, false, not, _&&_, _||_}
 use mathlib.Core.List.{List, [], _∷_}
-use Prim.Native.Nat.{ℕ, zero, suc, _+_, _≤_, min}
+use Prim.Native.Nat.{ℕ, suc, _+_, _≤_, min}
 use native.Mathlib.Omega.{arith}
 use lib.Dec.{leb}
 use lib.ListN.{getD}
 use Rattle.panel.specs.declared.line.Line.the-variants.{Nmi, Int0, Int1, Int2}
 use Rattle.panel.specs.Acts.{Act, read, write, acknowledge, tell, acted-all}
 use Rattle.panel.specs.Script.{State, next-byte, behind, with-rest, with-write, with-told, with-acknowledged, script-make, new-script}
-use Rattle.panel.specs.Scripted.{reads-of, last-of, states-of, is-int0, acknowledges, Script-laws}
+use Rattle.panel.specs.Scripted.{reads-of, last-of, states-of, acknowledges, Script-laws}
 
 abbrev run : State → List Act → State
 run s acts = acted-all script-make s acts

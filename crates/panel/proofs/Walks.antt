@@ -1,13 +1,13 @@
 -- A walk by record numbers meets exactly the records of a chain. Assumes nothing.
-use mathlib.Core.Path.{_≡_, refl, sym, ap, subst, _∙_}
+use mathlib.Core.Path.{_≡_, refl, sym, ap, _∙_}
 use mathlib.Core.List.{List, [], _∷_}
-use Prim.Native.Nat.{ℕ, zero, suc, _+_, _-_, _≤_, _<_}
+use Prim.Native.Nat.{ℕ, zero, suc, _-_, _≤_, _<_}
 use native.Mathlib.Omega.{arith}
 use lib.ListN.{length}
 use Rattle.std.proofs.shelf.Ways.{tells}
 use Rattle.std.specs.declared.option.Option.the-variants.{Some, None}
 use Rattle.panel.specs.declared.record.Record.{Record}
-use Rattle.panel.specs.Chains.{Entry, State, first-number, record-of}
+use Rattle.panel.specs.Chains.{Entry, State, record-of}
 use Rattle.panel.specs.Links.{row, count-of}
 use Rattle.panel.specs.Walking.{listed, onward, walked}
 use Rattle.panel.proofs.Following.{Leads, leads-first}

@@ -3,14 +3,17 @@ use mathlib.Core.Path.{_≡_}
 use mathlib.Core.Bool.{Bool, cond, _&&_}
 use mathlib.Core.List.{List, [], _∷_, _++_, map}
 use mathlib.Core.Logic.{_≢_}
-use Prim.Native.Nat.{ℕ, zero, suc, _+_, _≤_}
+use Prim.Native.Nat.{ℕ, suc, _+_, _≤_}
 use lib.Dec.{eqb, leb}
 use lib.ListN.{length}
 use Rattle.std.specs.shelf.Lists.{kept-by}
 use Rattle.std.specs.declared.option.Option.the-variants.{Some}
+use Rattle.std.specs.declared.result.Result.the-variants.{Ok, Err}
+use Rattle.denial.specs.Denials.{numbered}
 use Rattle.panel.specs.declared.record.Record.{Record}
 use Rattle.panel.specs.declared.sent.Sent.{Sent}
 use Rattle.panel.specs.declared.track.Track.{Track}
+use Rattle.panel.specs.Panel.{accepted}
 use Rattle.panel.specs.Acts.{Act, read, write, acknowledge, tell, acted}
 use Rattle.panel.specs.Tracks.{low-byte, track-of, track-number}
 use Rattle.panel.specs.Chains.{Entry, State, used, is-full, fresh-number, last-number, with-key, with-latch, new-chain, cleared, chain-make}
@@ -77,7 +80,9 @@ pub record History-laws : Type 0 where
   pub in-order : (usable : ℕ) (cs : List Call) (track : Track) → map sent-of (panel-after usable cs .chain (track-number track)) ≡ kept-by (to-low-byte (128 + track-number track)) (accepted-since usable cs)
   -- the records of those writes are 1, 2 and so on, in the order in which they came, whichever chains they are on
   pub numbers : (usable : ℕ) (cs : List Call) (track : Track) → panel-after usable cs .chain (track-number track) ≡ kept-by (λ e. to-low-byte (128 + track-number track) (sent-of e)) (numbered-from 1 (kept-by is-recorded (accepted-since usable cs)))
-  -- the panel is full, and a write denied, exactly when as many writes are recorded since then as there are usable records
+  -- a write is denied, as 8, exactly when as many writes are recorded since then as there are usable records, that is while
+  -- the panel is full
+  pub denied-when : (usable : ℕ) (cs : List Call) → accepted chain-make (panel-after usable cs) ≡ cond (eqb (length (kept-by is-recorded (accepted-since usable cs))) usable) (Err (numbered 8)) (Ok tt)
   pub full-when : (usable : ℕ) (cs : List Call) → is-full (panel-after usable cs) ≡ eqb (length (kept-by is-recorded (accepted-since usable cs))) usable
   -- as many records are used as writes recorded, and never more than are usable
   pub used-is : (usable : ℕ) (cs : List Call) → used (panel-after usable cs .chain) ≡ length (kept-by is-recorded (accepted-since usable cs))

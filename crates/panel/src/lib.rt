@@ -1,4 +1,4 @@
-// What a panel is, and two makes of it: the chain panel, which records a plot, and the script panel, for trials.
+// What a panel is, and two makes of it: the chain panel, which records a plot, and the script panel, which plays a list.
 ghost use Rattle.denial.specs.Denials.{answered};
 ghost use Rattle.panel.specs.Panel.{Make, accepted, wrote};
 ghost use mathlib.Core.Path.{_≡_};

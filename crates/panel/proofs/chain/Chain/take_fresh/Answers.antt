@@ -1,4 +1,4 @@
-use mathlib.Core.Path.{refl, sym, ap}
+use mathlib.Core.Path.{sym, ap}
 use lib.ListN.{set}
 use Rattle.panel.specs.Links.{ending}
 use Rattle.panel.specs.Shown.{table-of}
