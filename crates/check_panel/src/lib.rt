@@ -1,0 +1,5 @@
+// Tests of the panels, on examples.
+#[cfg(test)]
+mod chain;
+#[cfg(test)]
+mod script;
