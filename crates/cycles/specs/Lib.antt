@@ -1,0 +1,3 @@
+pub mod Tree
+pub mod Play
+pub mod Footprint
