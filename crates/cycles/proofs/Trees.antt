@@ -13,7 +13,7 @@ use Rattle.registers.specs.declared.window.Window.{Window}
 use Rattle.registers.specs.Window.{Opens-on, page-of, physical-of}
 use Rattle.registers.proofs.Opened as opened
 use Rattle.cycles.specs.Tree.{Cycles, Cycles.done, Cycles.fetch, Cycles.read, Cycles.write, Cycles.input, Cycles.output, Cycles.acknowledge, Cycles.internal}
-use Rattle.cycles.specs.Play.{Began, Played, World, access, after-cycle, after-input, after-output, answer-of, play, world}
+use Rattle.cycles.specs.Play.{Began, Played, World, access, acknowledging, answer-of, asked, byte-at, play, sent, stored, waited}
 use Rattle.cycles.specs.Footprint.{Few, Kept, Opens-within, Same, Touches-only, Tree-laws, on-pages, with-memory}
 
 kept-none : (set : ℕ → Bool) (m : Mem) → Kept set m m
@@ -34,43 +34,43 @@ module _ {S : Type 0} (make : Make S) where
   same set began (done x) v m touches agree = record { value = refl; panel = refl; tally = refl; memory = agree }
   same set began (fetch code a next) v m touches agree =
       let at = physical-of (began .window) a in
-      let on = world (v .mem) (v .panel) (after-cycle access (v .tally)) in
-      subst (λ b. Same set (play make began (next (v .mem .byte at)) on) (play make began (next b) (with-memory m on))) (agree at (touches .0) .0)
-      (same set began (next (v .mem .byte at)) on m (touches .1) agree)
+      let on = waited access v in
+      subst (λ b. Same set (play make began (next (byte-at began a v)) on) (play make began (next b) (with-memory m on))) (agree at (touches .0) .0)
+      (same set began (next (byte-at began a v)) on m (touches .1) agree)
   same set began (read a next) v m touches agree =
       let at = physical-of (began .window) a in
-      let on = world (v .mem) (v .panel) (after-cycle access (v .tally)) in
-      subst (λ b. Same set (play make began (next (v .mem .byte at)) on) (play make began (next b) (with-memory m on))) (agree at (touches .0) .0)
-      (same set began (next (v .mem .byte at)) on m (touches .1) agree)
+      let on = waited access v in
+      subst (λ b. Same set (play make began (next (byte-at began a v)) on) (play make began (next b) (with-memory m on))) (agree at (touches .0) .0)
+      (same set began (next (byte-at began a v)) on m (touches .1) agree)
   same set began (write a b next) v m touches agree =
       let at = physical-of (began .window) a in
-      same set began next (world (store (v .mem) at b) (v .panel) (after-cycle access (v .tally))) (store m at b) (touches .1) (stores.laws .agreement set (v .mem) m at b (touches .0) agree)
+      same set began next (stored began a b v) (store m at b) (touches .1) (stores.laws .agreement set (v .mem) m at b (touches .0) agree)
   same set began (input p next) v m touches agree =
-      same set began (next (answer-of make (v .panel) p)) (world (v .mem) (after-input make (v .panel) p) (after-cycle access (v .tally))) m touches agree
+      same set began (next (answer-of make (v .panel) p)) (asked make p v) m touches agree
   same set began (output p b next) v m touches agree =
-      same set began next (world (v .mem) (after-output make (v .panel) p b) (after-cycle access (v .tally))) m touches agree
+      same set began next (sent make p b v) m touches agree
   same set began (acknowledge line states next) v m touches agree =
-      same set began next (world (v .mem) (make .acknowledged (v .panel) line) (after-cycle states (v .tally))) m touches agree
+      same set began next (acknowledging make line states v) m touches agree
   same set began (internal states next) v m touches agree =
-      same set began next (world (v .mem) (v .panel) (after-cycle states (v .tally))) m touches agree
+      same set began next (waited states v) m touches agree
 
   kept : {A : Type 0} {n : ℕ} (set : ℕ → Bool) (began : Began) (tree : Cycles A n) (v : World S) → Touches-only set make began tree v → Kept set (v .mem) (play make began tree v .world .mem)
   kept set began (done x) v touches = kept-none set (v .mem)
   kept set began (fetch code a next) v touches =
-      kept set began (next (v .mem .byte (physical-of (began .window) a))) (world (v .mem) (v .panel) (after-cycle access (v .tally))) (touches .1)
+      kept set began (next (byte-at began a v)) (waited access v) (touches .1)
   kept set began (read a next) v touches =
-      kept set began (next (v .mem .byte (physical-of (began .window) a))) (world (v .mem) (v .panel) (after-cycle access (v .tally))) (touches .1)
+      kept set began (next (byte-at began a v)) (waited access v) (touches .1)
   kept set began (write a b next) v touches =
-      let on = world (store (v .mem) (physical-of (began .window) a) b) (v .panel) (after-cycle access (v .tally)) in
+      let on = stored began a b v in
       kept-then set (v .mem) (on .mem) (play make began next on .world .mem) (kept-store set (v .mem) (physical-of (began .window) a) b (touches .0)) (kept set began next on (touches .1))
   kept set began (input p next) v touches =
-      kept set began (next (answer-of make (v .panel) p)) (world (v .mem) (after-input make (v .panel) p) (after-cycle access (v .tally))) touches
+      kept set began (next (answer-of make (v .panel) p)) (asked make p v) touches
   kept set began (output p b next) v touches =
-      kept set began next (world (v .mem) (after-output make (v .panel) p b) (after-cycle access (v .tally))) touches
+      kept set began next (sent make p b v) touches
   kept set began (acknowledge line states next) v touches =
-      kept set began next (world (v .mem) (make .acknowledged (v .panel) line) (after-cycle states (v .tally))) touches
+      kept set began next (acknowledging make line states v) touches
   kept set began (internal states next) v touches =
-      kept set began next (world (v .mem) (v .panel) (after-cycle states (v .tally))) touches
+      kept set began next (waited states v) touches
 
   -- a physical address lies in a page of the set
   in-pages : (pages : ℕ → Bool) (w : Window) (a : ℕ) → Opens-within pages w → on-pages pages (physical-of w a) ≡ true
@@ -81,19 +81,19 @@ module _ {S : Type 0} (make : Make S) where
   within : {A : Type 0} {n : ℕ} (pages : ℕ → Bool) (began : Began) (tree : Cycles A n) (v : World S) → Opens-within pages (began .window) → Touches-only (on-pages pages) make began tree v
   within pages began (done x) v shown = tt
   within pages began (fetch code a next) v shown =
-      (in-pages pages (began .window) a shown, within pages began (next (v .mem .byte (physical-of (began .window) a))) (world (v .mem) (v .panel) (after-cycle access (v .tally))) shown)
+      (in-pages pages (began .window) a shown, within pages began (next (byte-at began a v)) (waited access v) shown)
   within pages began (read a next) v shown =
-      (in-pages pages (began .window) a shown, within pages began (next (v .mem .byte (physical-of (began .window) a))) (world (v .mem) (v .panel) (after-cycle access (v .tally))) shown)
+      (in-pages pages (began .window) a shown, within pages began (next (byte-at began a v)) (waited access v) shown)
   within pages began (write a b next) v shown =
-      (in-pages pages (began .window) a shown, within pages began next (world (store (v .mem) (physical-of (began .window) a) b) (v .panel) (after-cycle access (v .tally))) shown)
+      (in-pages pages (began .window) a shown, within pages began next (stored began a b v) shown)
   within pages began (input p next) v shown =
-      within pages began (next (answer-of make (v .panel) p)) (world (v .mem) (after-input make (v .panel) p) (after-cycle access (v .tally))) shown
+      within pages began (next (answer-of make (v .panel) p)) (asked make p v) shown
   within pages began (output p b next) v shown =
-      within pages began next (world (v .mem) (after-output make (v .panel) p b) (after-cycle access (v .tally))) shown
+      within pages began next (sent make p b v) shown
   within pages began (acknowledge line states next) v shown =
-      within pages began next (world (v .mem) (make .acknowledged (v .panel) line) (after-cycle states (v .tally))) shown
+      within pages began next (acknowledging make line states v) shown
   within pages began (internal states next) v shown =
-      within pages began next (world (v .mem) (v .panel) (after-cycle states (v .tally))) shown
+      within pages began next (waited states v) shown
 
 -- a place before others
 before : ℕ → (ℕ → ℕ) → ℕ → ℕ
@@ -120,19 +120,19 @@ module _ {S : Type 0} (make : Make S) where
   few : {A : Type 0} {n : ℕ} (began : Began) (tree : Cycles A n) (v : World S) → Few (began .window) n (v .mem) (play make began tree v .world .mem)
   few began (done x) v = few-none (began .window) _ (v .mem)
   few began (fetch code a next) v =
-      few began (next (v .mem .byte (physical-of (began .window) a))) (world (v .mem) (v .panel) (after-cycle access (v .tally)))
+      few began (next (byte-at began a v)) (waited access v)
   few began (read a next) v =
-      few began (next (v .mem .byte (physical-of (began .window) a))) (world (v .mem) (v .panel) (after-cycle access (v .tally)))
+      few began (next (byte-at began a v)) (waited access v)
   few began (write a b next) v =
-      few-more (began .window) _ a b (v .mem) _ (few began next (world (store (v .mem) (physical-of (began .window) a) b) (v .panel) (after-cycle access (v .tally))))
+      few-more (began .window) _ a b (v .mem) _ (few began next (stored began a b v))
   few began (input p next) v =
-      few began (next (answer-of make (v .panel) p)) (world (v .mem) (after-input make (v .panel) p) (after-cycle access (v .tally)))
+      few began (next (answer-of make (v .panel) p)) (asked make p v)
   few began (output p b next) v =
-      few began next (world (v .mem) (after-output make (v .panel) p b) (after-cycle access (v .tally)))
+      few began next (sent make p b v)
   few began (acknowledge line states next) v =
-      few began next (world (v .mem) (make .acknowledged (v .panel) line) (after-cycle states (v .tally)))
+      few began next (acknowledging make line states v)
   few began (internal states next) v =
-      few began next (world (v .mem) (v .panel) (after-cycle states (v .tally)))
+      few began next (waited states v)
 
   pub laws : (A : Type 0) → Tree-laws A make
   laws A = record { same = same make; kept = kept make; within = within make; few = few }

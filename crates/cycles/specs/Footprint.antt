@@ -8,28 +8,28 @@ use Rattle.panel.specs.Panel.{Make}
 use Rattle.registers.specs.declared.window.Window.{Window}
 use Rattle.registers.specs.Window.{Opens-on, page-of, physical-of, shown-page}
 use Rattle.cycles.specs.Tree.{Cycles, Cycles.done, Cycles.fetch, Cycles.read, Cycles.write, Cycles.input, Cycles.output, Cycles.acknowledge, Cycles.internal}
-use Rattle.cycles.specs.Play.{Began, Played, World, access, after-cycle, after-input, after-output, answer-of, play, world}
+use Rattle.cycles.specs.Play.{Began, Played, World, access, acknowledging, answer-of, asked, byte-at, play, sent, stored, waited, world}
 
 -- Every address that playing the tree reads, or tries to write, lies in a set.
 abbrev pub Touches-only : {A S : Type 0} {n : ℕ} → (ℕ → Bool) → Make S → Began → Cycles A n → World S → Type 0
 Touches-only set make began (done x) v = Unit {0}
 Touches-only set make began (fetch code a next) v =
     (set (physical-of (began .window) a) ≡ true)
-    × Touches-only set make began (next (v .mem .byte (physical-of (began .window) a))) (world (v .mem) (v .panel) (after-cycle access (v .tally)))
+    × Touches-only set make began (next (byte-at began a v)) (waited access v)
 Touches-only set make began (read a next) v =
     (set (physical-of (began .window) a) ≡ true)
-    × Touches-only set make began (next (v .mem .byte (physical-of (began .window) a))) (world (v .mem) (v .panel) (after-cycle access (v .tally)))
+    × Touches-only set make began (next (byte-at began a v)) (waited access v)
 Touches-only set make began (write a b next) v =
     (set (physical-of (began .window) a) ≡ true)
-    × Touches-only set make began next (world (store (v .mem) (physical-of (began .window) a) b) (v .panel) (after-cycle access (v .tally)))
+    × Touches-only set make began next (stored began a b v)
 Touches-only set make began (input p next) v =
-    Touches-only set make began (next (answer-of make (v .panel) p)) (world (v .mem) (after-input make (v .panel) p) (after-cycle access (v .tally)))
+    Touches-only set make began (next (answer-of make (v .panel) p)) (asked make p v)
 Touches-only set make began (output p b next) v =
-    Touches-only set make began next (world (v .mem) (after-output make (v .panel) p b) (after-cycle access (v .tally)))
+    Touches-only set make began next (sent make p b v)
 Touches-only set make began (acknowledge line states next) v =
-    Touches-only set make began next (world (v .mem) (make .acknowledged (v .panel) line) (after-cycle states (v .tally)))
+    Touches-only set make began next (acknowledging make line states v)
 Touches-only set make began (internal states next) v =
-    Touches-only set make began next (world (v .mem) (v .panel) (after-cycle states (v .tally)))
+    Touches-only set make began next (waited states v)
 
 -- From one memory to another, no address outside a set has changed, and none has come to take writes or ceased to.
 pub record Kept (set : ℕ → Bool) (before after : Mem) : Type 0 where

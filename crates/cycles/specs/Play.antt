@@ -1,6 +1,7 @@
 -- What playing a tree of machine cycles does to memory and panel, and how long it takes. Assumes nothing.
 use Prim.Native.Nat.{ℕ, _+_}
 use Rattle.memory.specs.Memory.{Mem, store}
+use Rattle.panel.specs.declared.line.Line.{Line}
 use Rattle.panel.specs.Panel.{Make, wrote}
 use Rattle.registers.specs.declared.window.Window.{Window}
 use Rattle.registers.specs.Window.{physical-of}
@@ -53,20 +54,40 @@ pub record Played (A S : Type 0) : Type 0 where
 abbrev pub world : {S : Type 0} → Mem → S → Tally → World S
 world m s t = record { mem = m; panel = s; tally = t }
 
+-- The byte that an access to a logical address brings.
+abbrev pub byte-at : {S : Type 0} → Began → ℕ → World S → ℕ
+byte-at began a v = v .mem .byte (physical-of (began .window) a)
+
+-- The world after a cycle of each kind: one that alters nothing, a write, an input, an output, an acknowledgement.
+abbrev pub waited : {S : Type 0} → ℕ → World S → World S
+waited states v = world (v .mem) (v .panel) (after-cycle states (v .tally))
+
+abbrev pub stored : {S : Type 0} → Began → ℕ → ℕ → World S → World S
+stored began a b v = world (store (v .mem) (physical-of (began .window) a) b) (v .panel) (after-cycle access (v .tally))
+
+abbrev pub asked : {S : Type 0} → Make S → Port → World S → World S
+asked make p v = world (v .mem) (after-input make (v .panel) p) (after-cycle access (v .tally))
+
+abbrev pub sent : {S : Type 0} → Make S → Port → ℕ → World S → World S
+sent make p b v = world (v .mem) (after-output make (v .panel) p b) (after-cycle access (v .tally))
+
+abbrev pub acknowledging : {S : Type 0} → Make S → Line → ℕ → World S → World S
+acknowledging make line states v = world (v .mem) (make .acknowledged (v .panel) line) (after-cycle states (v .tally))
+
 -- The tree, played. Logical addresses become physical only here.
 abbrev pub play : {A S : Type 0} {n : ℕ} → Make S → Began → Cycles A n → World S → Played A S
 play make began (done x) v = record { value = x; world = v }
 play make began (fetch code a next) v =
-    play make began (next (v .mem .byte (physical-of (began .window) a))) (world (v .mem) (v .panel) (after-cycle access (v .tally)))
+    play make began (next (byte-at began a v)) (waited access v)
 play make began (read a next) v =
-    play make began (next (v .mem .byte (physical-of (began .window) a))) (world (v .mem) (v .panel) (after-cycle access (v .tally)))
+    play make began (next (byte-at began a v)) (waited access v)
 play make began (write a b next) v =
-    play make began next (world (store (v .mem) (physical-of (began .window) a) b) (v .panel) (after-cycle access (v .tally)))
+    play make began next (stored began a b v)
 play make began (input p next) v =
-    play make began (next (answer-of make (v .panel) p)) (world (v .mem) (after-input make (v .panel) p) (after-cycle access (v .tally)))
+    play make began (next (answer-of make (v .panel) p)) (asked make p v)
 play make began (output p b next) v =
-    play make began next (world (v .mem) (after-output make (v .panel) p b) (after-cycle access (v .tally)))
+    play make began next (sent make p b v)
 play make began (acknowledge line states next) v =
-    play make began next (world (v .mem) (make .acknowledged (v .panel) line) (after-cycle states (v .tally)))
+    play make began next (acknowledging make line states v)
 play make began (internal states next) v =
-    play make began next (world (v .mem) (v .panel) (after-cycle states (v .tally)))
+    play make began next (waited states v)
