@@ -6,5 +6,4 @@ use panel::Panel;
 // Of every tree of machine cycles, whatever type of value it comes to, with every make of panel.
 pub fn tree_laws<V, P: Panel>()
     ensures { λ _. ⌜ Tree-laws V (P·Panel .make) ⌝ }
-{
-}
+{}
