@@ -1,1 +1,3 @@
 pub mod Window
+pub mod Registers
+pub mod Ports

@@ -1,4 +1,6 @@
 // Everything that reset sets, but for the window's three bytes, which stand in a record of their own.
+ghost use Rattle.registers.specs.Registers.{fresh-registers, no-bytes};
+ghost use mathlib.Core.Path.{_≡_};
 use arithmetic::flags::Flags;
 use arithmetic::flags::FlagsDebug;
 
@@ -49,4 +51,47 @@ pub struct Registers {
     pub il: u8,
     pub itc: u8,
     pub icr: u8,
+}
+
+impl RegisterSet {
+    fn new() -> RegisterSet
+        ensures { λ r. ⌜ r ≡ no-bytes ⌝ }
+    {
+        RegisterSet {
+            a: 0,
+            f: Flags::from_byte(0),
+            b: 0,
+            c: 0,
+            d: 0,
+            e: 0,
+            h: 0,
+            l: 0,
+        }
+    }
+}
+
+impl Registers {
+    // The registers of a card that was just made.
+    pub fn new() -> Registers
+        ensures { λ r. ⌜ r ≡ fresh-registers ⌝ }
+    {
+        Registers {
+            main: RegisterSet::new(),
+            alternate: RegisterSet::new(),
+            ix: 0,
+            iy: 0,
+            sp: 0,
+            pc: 0,
+            i: 0,
+            r: 0,
+            ief1: false,
+            ief2: false,
+            im: InterruptMode::Zero,
+            mode: Mode::Running,
+            ei: false,
+            il: 0x00,
+            itc: 0x39,
+            icr: 0x1F,
+        }
+    }
 }
