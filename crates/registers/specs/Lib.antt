@@ -1,3 +1,4 @@
 pub mod Window
 pub mod Registers
 pub mod Ports
+pub mod Operands
