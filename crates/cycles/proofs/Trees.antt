@@ -16,7 +16,7 @@ use Rattle.cycles.specs.Tree.{Cycles, Cycles.done, Cycles.fetch, Cycles.read, 
 use Rattle.cycles.specs.Play.{Began, Played, World, access, acknowledging, answer-of, asked, byte-at, play, sent, stored, waited}
 use Rattle.cycles.specs.Footprint.{Few, Kept, Opens-within, Same, Touches-only, Tree-laws, on-pages, with-memory}
 
-kept-none : (set : ℕ → Bool) (m : Mem) → Kept set m m
+pub kept-none : (set : ℕ → Bool) (m : Mem) → Kept set m m
 kept-none set m = record { byte = λ a address out. refl; takes = λ a. refl }
 
 kept-then : (set : ℕ → Bool) (k m n : Mem) → Kept set k m → Kept set m n → Kept set k n

@@ -116,8 +116,22 @@ no-bytes = record { a = 0; f = from 0; b = 0; c = 0; d = 0; e = 0; h = 0; l = 0 
 -- What reset, and making, leave: zeros, mode 0, running, no EI before, and the bytes of the internal ports.
 abbrev pub fresh-registers : Registers
 fresh-registers = record {
-  main = no-bytes; alternate = no-bytes; ix = 0; iy = 0; sp = 0; pc = 0; i = 0; r = 0; ief1 = false; ief2 = false;
-  im = Zero; mode = Running; ei = false; il = 0; itc = 0x39; icr = 0x1F;
+  main = no-bytes;
+  alternate = no-bytes;
+  ix = 0;
+  iy = 0;
+  sp = 0;
+  pc = 0;
+  i = 0;
+  r = 0;
+  ief1 = false;
+  ief2 = false;
+  im = Zero;
+  mode = Running;
+  ei = false;
+  il = 0;
+  itc = 0x39;
+  icr = 0x1F;
 }
 
 abbrev pub fresh-window : Window

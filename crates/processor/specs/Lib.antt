@@ -1,0 +1,15 @@
+pub mod Parts
+pub mod Load
+pub mod Exchange
+pub mod Arithmetic
+pub mod Rotate
+pub mod Bit
+pub mod Jump
+pub mod Call
+pub mod Block
+pub mod Port
+pub mod Control
+pub mod Instruction
+pub mod Interrupt
+pub mod Step
+pub mod Seclusion
