@@ -19,7 +19,7 @@ use Rattle.cycles.specs.Footprint.{Few, Kept, Opens-within, Same, Touches-only
 pub kept-none : (set : ℕ → Bool) (m : Mem) → Kept set m m
 kept-none set m = record { byte = λ a address out. refl; takes = λ a. refl }
 
-kept-then : (set : ℕ → Bool) (k m n : Mem) → Kept set k m → Kept set m n → Kept set k n
+pub kept-then : (set : ℕ → Bool) (k m n : Mem) → Kept set k m → Kept set m n → Kept set k n
 kept-then set k m n one two =
     record { byte = λ a address out. two .byte a address out ∙ one .byte a address out; takes = λ a. two .takes a ∙ one .takes a }
 
@@ -73,7 +73,7 @@ module _ {S : Type 0} (make : Make S) where
       kept set began next (waited states v) touches
 
   -- a physical address lies in a page of the set
-  in-pages : (pages : ℕ → Bool) (w : Window) (a : ℕ) → Opens-within pages w → on-pages pages (physical-of w a) ≡ true
+  pub in-pages : (pages : ℕ → Bool) (w : Window) (a : ℕ) → Opens-within pages w → on-pages pages (physical-of w a) ≡ true
   in-pages pages w a shown =
       let page = opened.translated w a in
       and-from _ _ (lt-ltb _ _ (opened.laws .within w a)) (ap pages (page .2) ∙ shown (page .0) (page .1))

@@ -10,11 +10,11 @@ use Rattle.cycles.specs.Footprint.{Few, Kept, Opens-within, on-pages}
 use Rattle.cycles.specs.Play.{no-time, world}
 use Rattle.cycles.proofs.Trees as trees
 use Rattle.processor.specs.Interrupt.{accepted}
-use Rattle.processor.specs.Seclusion.{Alike, Both, Step-laws}
+use Rattle.processor.specs.Seclusion.{Alike, Both, If-taken, Step-laws}
 use Rattle.processor.specs.Step.{Model, Turn, began, cycles-of, denied, no-restart, step, taken}
 
 -- the same card over another memory
-abbrev with-mem : {S : Type 0} → Mem → Model S → Model S
+abbrev pub with-mem : {S : Type 0} → Mem → Model S → Model S
 with-mem m c = record { processor = c .processor; mem = m; panel = c .panel }
 
 module _ {S : Type 0} (make : Make S) where
@@ -46,7 +46,7 @@ module _ {S : Type 0} (make : Make S) where
   abbrev by-tests : Bool → Bool → Model S → Turn S
   by-tests full bad c = cond full (denied 8 c) (cond bad (denied 9 c) (taken make c))
 
-  tests-both : (pages : ℕ → Bool) (c : Model S) (m : Mem) (full bad : Bool) → Opens-within pages (c .processor .window) → Agree (on-pages pages) (c .mem) m → Both pages c (with-mem m c) (by-tests full bad c) (by-tests full bad (with-mem m c))
+  tests-both : (pages : ℕ → Bool) (c : Model S) (m : Mem) (full bad : Bool) → If-taken (by-tests full bad c .answer) (Opens-within pages (c .processor .window)) → Agree (on-pages pages) (c .mem) m → Both pages c (with-mem m c) (by-tests full bad c) (by-tests full bad (with-mem m c))
   tests-both pages c m true bad shown agree = denied-both pages c m 8 agree
   tests-both pages c m false true shown agree = denied-both pages c m 9 agree
   tests-both pages c m false false shown agree = taken-both pages c m shown agree
@@ -60,7 +60,7 @@ module _ {S : Type 0} (make : Make S) where
   bad-byte c = no-restart (accepted make (c .panel) (c .processor .cpu)) (c .processor .cpu .im) (make .int0-byte (c .panel))
 
   -- what holds over another memory holds of every card that is alike
-  carried : (pages : ℕ → Bool) (c d : Model S) (P : Model S → Type 0) → Alike pages c d → P (with-mem (d .mem) c) → P d
+  pub carried : (pages : ℕ → Bool) (c d : Model S) (P : Model S → Type 0) → Alike pages c d → P (with-mem (d .mem) c) → P d
   carried pages c d P alike h = subst₂ (λ u v. P (record { processor = u; mem = d .mem; panel = v })) (alike .processor) (alike .panel) h
 
   pub laws : Step-laws make

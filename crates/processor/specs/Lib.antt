@@ -13,3 +13,6 @@ pub mod Instruction
 pub mod Interrupt
 pub mod Step
 pub mod Seclusion
+pub mod Run
+pub mod Log
+pub mod Isolation
