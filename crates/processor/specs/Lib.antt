@@ -16,3 +16,4 @@ pub mod Seclusion
 pub mod Run
 pub mod Log
 pub mod Isolation
+pub mod Example
