@@ -15,16 +15,18 @@ pub struct BoardLength {
 impl BoardLength {
     pub const LONGEST: usize = 524_288;
 
-    // The length of a bank over these bytes, or 1.
+    // The length of a bank over these bytes, or 1; they are as they were.
     pub fn of_bank(bytes: &[u8]) -> Result<BoardLength, Denial>
-        ensures { λ r. ⌜ answered-by bytes-of r ≡ board-length (length (now (bytes .entry))) ⌝ }
+        ensures answer { λ r. ⌜ answered-by bytes-of r ≡ board-length (length (now (bytes .entry))) ⌝ }
+        ensures same { λ _. ⌜ now (bytes .exit) ≡ now (bytes .entry) ⌝ }
     {
         Self::checked(bytes.len(), 0)
     }
 
-    // The length of a ROM-and-RAM board over these bytes, both counted, or 1.
+    // The length of a ROM-and-RAM board over these bytes, both counted, or 1; they are as they were.
     pub fn of_rom_ram(rom: &[u8], ram: &[u8]) -> Result<BoardLength, Denial>
-        ensures { λ r. ⌜ answered-by bytes-of r ≡ board-length (length (now (rom .entry)) + length (now (ram .entry))) ⌝ }
+        ensures answer { λ r. ⌜ answered-by bytes-of r ≡ board-length (length (now (rom .entry)) + length (now (ram .entry))) ⌝ }
+        ensures same { λ _. ⌜ now (rom .exit) ≡ now (rom .entry) ⌝ ∗ ⌜ now (ram .exit) ≡ now (ram .entry) ⌝ }
     {
         Self::checked(rom.len(), ram.len())
     }
