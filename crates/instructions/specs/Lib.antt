@@ -3,4 +3,5 @@ pub mod Ed
 pub mod Field
 pub mod Indexed
 pub mod IndexedCb
+pub mod Length
 pub mod Main
