@@ -1,3 +1,4 @@
+pub mod Beginning
 pub mod Cb
 pub mod Ed
 pub mod Field
