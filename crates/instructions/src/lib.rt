@@ -1,4 +1,5 @@
 // What the bytes of an instruction mean, read from the bytes alone: its form with its operands, and its length.
+pub mod beginning;
 pub mod cb_page;
 pub mod ed_page;
 mod field;

@@ -1,4 +1,6 @@
 // Arithmetic and logic, of bytes and of words.
+ghost use Rattle.instructions.specs.Length as bytes;
+ghost use mathlib.Core.Path.{_≡_};
 use arithmetic::operation::Operation;
 use registers::operand::Index;
 use registers::operand::Pair;
@@ -63,4 +65,37 @@ pub enum Arithmetic {
     DecrementPair(Pair),
     // DEC IX
     DecrementIndex(Index),
+}
+
+impl Arithmetic {
+    pub(crate) fn length(self) -> usize
+        ensures { λ r. ⌜ r ≡ bytes.of-arithmetic self ⌝ }
+    {
+        match self {
+            Arithmetic::Register(_, _)
+            | Arithmetic::Memory(_)
+            | Arithmetic::IncrementRegister(_)
+            | Arithmetic::IncrementMemory
+            | Arithmetic::DecrementRegister(_)
+            | Arithmetic::DecrementMemory
+            | Arithmetic::Complement
+            | Arithmetic::AddPair(_)
+            | Arithmetic::IncrementPair(_)
+            | Arithmetic::DecrementPair(_) => 1,
+            Arithmetic::Byte(_)
+            | Arithmetic::TestRegister(_)
+            | Arithmetic::TestMemory
+            | Arithmetic::Negate
+            | Arithmetic::Multiply(_)
+            | Arithmetic::AddWithCarryPair(_)
+            | Arithmetic::SubtractWithCarryPair(_)
+            | Arithmetic::AddIndex(_, _)
+            | Arithmetic::IncrementIndex(_)
+            | Arithmetic::DecrementIndex(_) => 2,
+            Arithmetic::Indexed(_, _)
+            | Arithmetic::IncrementIndexed(_)
+            | Arithmetic::DecrementIndexed(_)
+            | Arithmetic::TestByte => 3,
+        }
+    }
 }

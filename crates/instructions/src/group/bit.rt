@@ -1,4 +1,6 @@
 // Test, set and reset of one bit, which goes by its number, 0 to 7.
+ghost use Rattle.instructions.specs.Length as bytes;
+ghost use mathlib.Core.Path.{_≡_};
 use registers::operand::Index;
 use registers::operand::Register;
 
@@ -22,4 +24,20 @@ pub enum Bit {
     SetMemory(u8),
     // SET b,(IX+d)
     SetIndexed(u8, Index),
+}
+
+impl Bit {
+    pub(crate) fn length(self) -> usize
+        ensures { λ r. ⌜ r ≡ bytes.of-bit self ⌝ }
+    {
+        match self {
+            Bit::TestRegister(_, _)
+            | Bit::TestMemory(_)
+            | Bit::ResetRegister(_, _)
+            | Bit::ResetMemory(_)
+            | Bit::SetRegister(_, _)
+            | Bit::SetMemory(_) => 2,
+            Bit::TestIndexed(_, _) | Bit::ResetIndexed(_, _) | Bit::SetIndexed(_, _) => 4,
+        }
+    }
 }

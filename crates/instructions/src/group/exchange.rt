@@ -1,4 +1,6 @@
 // The stack, and exchanges.
+ghost use Rattle.instructions.specs.Length as bytes;
+ghost use mathlib.Core.Path.{_≡_};
 use registers::operand::Index;
 use registers::operand::StackPair;
 
@@ -22,4 +24,20 @@ pub enum Exchange {
     StackHl,
     // EX (SP),IX
     StackIndex(Index),
+}
+
+impl Exchange {
+    pub(crate) fn length(self) -> usize
+        ensures { λ r. ⌜ r ≡ bytes.of-exchange self ⌝ }
+    {
+        match self {
+            Exchange::Push(_)
+            | Exchange::Pop(_)
+            | Exchange::AfAlternate
+            | Exchange::DeHl
+            | Exchange::Alternates
+            | Exchange::StackHl => 1,
+            Exchange::PushIndex(_) | Exchange::PopIndex(_) | Exchange::StackIndex(_) => 2,
+        }
+    }
 }

@@ -1,4 +1,6 @@
 // Jumps.
+ghost use Rattle.instructions.specs.Length as bytes;
+ghost use mathlib.Core.Path.{_≡_};
 use registers::operand::Condition;
 use registers::operand::Index;
 
@@ -18,4 +20,16 @@ pub enum Jump {
     RelativeIf(Condition),
     // DJNZ e
     Count,
+}
+
+impl Jump {
+    pub(crate) fn length(self) -> usize
+        ensures { λ r. ⌜ r ≡ bytes.of-jump self ⌝ }
+    {
+        match self {
+            Jump::Hl => 1,
+            Jump::Index(_) | Jump::Relative | Jump::RelativeIf(_) | Jump::Count => 2,
+            Jump::Always | Jump::If(_) => 3,
+        }
+    }
 }

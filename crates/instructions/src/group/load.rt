@@ -1,4 +1,6 @@
 // Loads of bytes and of words: from the second operand to the first.
+ghost use Rattle.instructions.specs.Length as bytes;
+ghost use mathlib.Core.Path.{_≡_};
 use registers::operand::Index;
 use registers::operand::Pair;
 use registers::operand::Pointer;
@@ -58,4 +60,39 @@ pub enum Load {
     SpHl,
     // LD SP,IX
     SpIndex(Index),
+}
+
+impl Load {
+    pub(crate) fn length(self) -> usize
+        ensures { λ r. ⌜ r ≡ bytes.of-load self ⌝ }
+    {
+        match self {
+            Load::RegisterRegister(_, _)
+            | Load::RegisterMemory(_)
+            | Load::MemoryRegister(_)
+            | Load::AccumulatorPointer(_)
+            | Load::PointerAccumulator(_)
+            | Load::SpHl => 1,
+            Load::RegisterByte(_)
+            | Load::MemoryByte
+            | Load::AccumulatorI
+            | Load::AccumulatorR
+            | Load::IAccumulator
+            | Load::RAccumulator
+            | Load::SpIndex(_) => 2,
+            Load::RegisterIndexed(_, _)
+            | Load::IndexedRegister(_, _)
+            | Load::AccumulatorAddress
+            | Load::AddressAccumulator
+            | Load::PairWord(_)
+            | Load::HlAddress
+            | Load::AddressHl => 3,
+            Load::IndexedByte(_)
+            | Load::IndexWord(_)
+            | Load::PairAddress(_)
+            | Load::IndexAddress(_)
+            | Load::AddressPair(_)
+            | Load::AddressIndex(_) => 4,
+        }
+    }
 }

@@ -1,4 +1,6 @@
 // Input and output, also of blocks.
+ghost use Rattle.instructions.specs.Length as bytes;
+ghost use mathlib.Core.Path.{_≡_};
 use registers::operand::Direction;
 use registers::operand::Register;
 
@@ -30,4 +32,24 @@ pub enum Port {
     OutputZeroBlock(Direction),
     // OTIMR and OTDMR
     OutputZeroRepeated(Direction),
+}
+
+impl Port {
+    pub(crate) fn length(self) -> usize
+        ensures { λ r. ⌜ r ≡ bytes.of-port self ⌝ }
+    {
+        match self {
+            Port::InputAccumulator
+            | Port::Input(_)
+            | Port::OutputAccumulator
+            | Port::Output(_)
+            | Port::InputBlock(_)
+            | Port::InputRepeated(_)
+            | Port::OutputBlock(_)
+            | Port::OutputRepeated(_)
+            | Port::OutputZeroBlock(_)
+            | Port::OutputZeroRepeated(_) => 2,
+            Port::InputZero(_) | Port::OutputZero(_) | Port::Test => 3,
+        }
+    }
 }

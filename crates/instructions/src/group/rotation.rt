@@ -1,4 +1,6 @@
 // Rotates and shifts.
+ghost use Rattle.instructions.specs.Length as bytes;
+ghost use mathlib.Core.Path.{_≡_};
 use arithmetic::rotate::Rotate;
 use registers::operand::Index;
 use registers::operand::Register;
@@ -17,4 +19,19 @@ pub enum Rotation {
     DigitsLeft,
     // RRD
     DigitsRight,
+}
+
+impl Rotation {
+    pub(crate) fn length(self) -> usize
+        ensures { λ r. ⌜ r ≡ bytes.of-rotation self ⌝ }
+    {
+        match self {
+            Rotation::Accumulator(_) => 1,
+            Rotation::Register(_, _)
+            | Rotation::Memory(_)
+            | Rotation::DigitsLeft
+            | Rotation::DigitsRight => 2,
+            Rotation::Indexed(_, _) => 4,
+        }
+    }
 }
