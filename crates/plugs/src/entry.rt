@@ -55,6 +55,6 @@ pub impl Entry for PatchEntry as PatchEntryEntry {
     }
 
     fn in_range(&self) -> bool {
-        self.address < BEYOND
+        self.key() < BEYOND
     }
 }

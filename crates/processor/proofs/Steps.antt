@@ -43,7 +43,7 @@ module _ {S : Type 0} (make : Make S) where
   }
 
   -- a step by its two tests
-  abbrev by-tests : Bool → Bool → Model S → Turn S
+  abbrev pub by-tests : Bool → Bool → Model S → Turn S
   by-tests full bad c = cond full (denied 8 c) (cond bad (denied 9 c) (taken make c))
 
   tests-both : (pages : ℕ → Bool) (c : Model S) (m : Mem) (full bad : Bool) → If-taken (by-tests full bad c .answer) (Opens-within pages (c .processor .window)) → Agree (on-pages pages) (c .mem) m → Both pages c (with-mem m c) (by-tests full bad c) (by-tests full bad (with-mem m c))
@@ -56,7 +56,7 @@ module _ {S : Type 0} (make : Make S) where
   tests-few c false true = trees.few-none (c .processor .window) 2 (c .mem)
   tests-few c false false = trees.laws make Processor .few (began c) (cycles-of make c) (world (c .mem) (c .panel) no-time)
 
-  abbrev bad-byte : Model S → Bool
+  abbrev pub bad-byte : Model S → Bool
   bad-byte c = no-restart (accepted make (c .panel) (c .processor .cpu)) (c .processor .cpu .im) (make .int0-byte (c .panel))
 
   -- what holds over another memory holds of every card that is alike

@@ -17,3 +17,4 @@ pub mod Run
 pub mod Log
 pub mod Isolation
 pub mod Example
+pub mod Denials

@@ -1,5 +1,6 @@
 // The definition of what the processor does in a step, and its laws. There is no code to run here: each function names a law,
 // so that it is proved, and does nothing.
+ghost use Rattle.processor.specs.Denials.{Denial-laws};
 ghost use Rattle.processor.specs.Example.{Presumption-met};
 ghost use Rattle.processor.specs.Isolation.{Isolation};
 ghost use Rattle.processor.specs.Seclusion.{Step-laws};
@@ -18,4 +19,9 @@ pub fn isolation<P: Panel>()
 // What isolation presumes can be met, also by a log that changes the window.
 pub fn presumption_met()
     ensures { λ _. ⌜ Presumption-met ⌝ }
+{}
+
+// A denied call changes nothing.
+pub fn denial_laws<P: Panel>()
+    ensures { λ _. ⌜ Denial-laws (P·Panel .make) ⌝ }
 {}
