@@ -6,3 +6,4 @@ pub mod IndexedPage
 pub mod IndexedCbPage
 pub mod Bench
 pub mod Totals
+pub mod Traps

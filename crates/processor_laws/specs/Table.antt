@@ -1,11 +1,12 @@
 -- Tables by opcode byte. Assumes nothing.
-use mathlib.Core.Bool.{Bool, true, false, _&&_, _||_}
+use mathlib.Core.Bool.{Bool, true, false, not, _&&_, _||_}
 use mathlib.Core.List.{List, [], _∷_}
-use Prim.Native.Nat.{ℕ, zero, suc, _/_, _%_}
+use Prim.Native.Nat.{ℕ, zero, suc, _+_, _/_, _%_}
 use lib.Dec.{eqb, leb}
 use lib.ListN.{getD}
 use Rattle.std.specs.declared.result.Result.{Result}
 use Rattle.std.specs.declared.result.Result.the-variants.{Err, Ok}
+use Rattle.arithmetic.specs.Flags.{bit}
 use Rattle.cycles.specs.Play.{Tally}
 use Rattle.processor.specs.Step.{Faulted}
 
@@ -27,7 +28,14 @@ abbrev pub in-ranges : List (ℕ × ℕ) → ℕ → Bool
 in-ranges [] b = false
 in-ranges (r ∷ rs) b = leb (r .0) b && leb b (r .1) || in-ranges rs b
 
--- A test that holds of every number below n; of how many it holds.
+abbrev pub is-instruction : Grid → ℕ → Bool
+is-instruction grid b = not (eqb (entry grid b) 0)
+
+-- Whether a test holds of every number below n, and of how many.
 abbrev pub upto : ℕ → (ℕ → Bool) → Bool
 upto zero test = true
 upto (suc n) test = test n && upto n test
+
+abbrev pub how-many : ℕ → (ℕ → Bool) → ℕ
+how-many zero test = 0
+how-many (suc n) test = bit (test n) + how-many n test

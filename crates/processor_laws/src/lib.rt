@@ -1,7 +1,15 @@
 // The processor's definition held against the data book. There is no code to run here: each function names laws, so that they
 // are proved, and does nothing.
-ghost use Rattle.processor_laws.specs.Totals.{Main-totals};
+ghost use Rattle.processor_laws.specs.Totals.{Ed-totals, Main-totals, Pages, Totals};
+ghost use Rattle.processor_laws.specs.Traps.{Traps};
 
-pub fn main_totals()
-    ensures { λ _. ⌜ Main-totals ⌝ }
+pub fn totals()
+    ensures main_page { λ _. ⌜ Main-totals ⌝ }
+    ensures ed_page { λ _. ⌜ Ed-totals ⌝ }
+    ensures others { λ _. ⌜ Totals ⌝ }
+    ensures pages { λ _. ⌜ Pages ⌝ }
+{}
+
+pub fn traps()
+    ensures { λ _. ⌜ Traps ⌝ }
 {}
