@@ -7,3 +7,4 @@ pub mod IndexedCbPage
 pub mod Bench
 pub mod Totals
 pub mod Traps
+pub mod Worked

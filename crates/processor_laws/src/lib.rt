@@ -2,6 +2,7 @@
 // are proved, and does nothing.
 ghost use Rattle.processor_laws.specs.Totals.{Ed-totals, Main-totals, Pages, Totals};
 ghost use Rattle.processor_laws.specs.Traps.{Traps};
+ghost use Rattle.processor_laws.specs.Worked.{Worked-numbers};
 
 pub fn totals()
     ensures main_page { λ _. ⌜ Main-totals ⌝ }
@@ -12,4 +13,8 @@ pub fn totals()
 
 pub fn traps()
     ensures { λ _. ⌜ Traps ⌝ }
+{}
+
+pub fn worked_numbers()
+    ensures { λ _. ⌜ Worked-numbers ⌝ }
 {}
