@@ -8,3 +8,4 @@ pub mod Bench
 pub mod Totals
 pub mod Traps
 pub mod Worked
+pub mod Interrupts

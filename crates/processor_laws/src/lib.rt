@@ -1,5 +1,6 @@
 // The processor's definition held against the data book. There is no code to run here: each function names laws, so that they
 // are proved, and does nothing.
+ghost use Rattle.processor_laws.specs.Interrupts.{Entries, Instead};
 ghost use Rattle.processor_laws.specs.Totals.{Ed-totals, Main-totals, Pages, Totals};
 ghost use Rattle.processor_laws.specs.Traps.{Traps};
 ghost use Rattle.processor_laws.specs.Worked.{Worked-numbers};
@@ -17,4 +18,9 @@ pub fn traps()
 
 pub fn worked_numbers()
     ensures { λ _. ⌜ Worked-numbers ⌝ }
+{}
+
+pub fn interrupts()
+    ensures entries { λ _. ⌜ Entries ⌝ }
+    ensures instead { λ _. ⌜ Instead ⌝ }
 {}
