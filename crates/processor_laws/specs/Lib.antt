@@ -9,3 +9,4 @@ pub mod Totals
 pub mod Traps
 pub mod Worked
 pub mod Interrupts
+pub mod Examples

@@ -1,5 +1,6 @@
 // The processor's definition held against the data book. There is no code to run here: each function names laws, so that they
 // are proved, and does nothing.
+ghost use Rattle.processor_laws.specs.Examples.{Examples};
 ghost use Rattle.processor_laws.specs.Interrupts.{Entries, Instead};
 ghost use Rattle.processor_laws.specs.Totals.{Ed-totals, Main-totals, Pages, Totals};
 ghost use Rattle.processor_laws.specs.Traps.{Traps};
@@ -23,4 +24,8 @@ pub fn worked_numbers()
 pub fn interrupts()
     ensures entries { λ _. ⌜ Entries ⌝ }
     ensures instead { λ _. ⌜ Instead ⌝ }
+{}
+
+pub fn examples()
+    ensures { λ _. ⌜ Examples ⌝ }
 {}
