@@ -1,0 +1,12 @@
+pub mod Table
+pub mod MainPage
+pub mod CbPage
+pub mod EdPage
+pub mod IndexedPage
+pub mod IndexedCbPage
+pub mod Bench
+pub mod Totals
+pub mod Traps
+pub mod Worked
+pub mod Interrupts
+pub mod Examples
