@@ -11,7 +11,7 @@ use Rattle.std.proofs.shelf.Tests.{ltb-true, leb-true, lt-ltb, le-leb}
 use Rattle.std.specs.declared.option.Option.{Option}
 use Rattle.std.specs.declared.option.Option.the-variants.{Some, None}
 use Rattle.registers.specs.declared.operand.Index.{Index}
-use Rattle.instructions.specs.Beginning.{whole, whole-or, by-byte, displaced, behind-index, behind, from-first, beginning}
+use Rattle.instructions.specs.Beginning.{whole, whole-or, by-byte, behind-index, behind, from-first, beginning}
 use Rattle.instructions.specs.Cb as cb
 use Rattle.instructions.specs.Ed as ed
 use Rattle.instructions.specs.Indexed as indexed
