@@ -3,10 +3,10 @@ use mathlib.Core.Path.{_≡_}
 use mathlib.Core.List.{List, _++_}
 use Prim.Native.Nat.{ℕ, _≤_}
 use lib.ListN.{length}
-use Rattle.instructions.specs.Beginning.{beginning}
+use Rattle.beginning.specs.Beginning.{beginning}
 use Rattle.instructions.specs.Length as instruction
-use Rattle.instructions.specs.declared.beginning.Beginning.{Beginning}
-use Rattle.instructions.specs.declared.beginning.Beginning.the-variants.{Instruction, UndefinedSecond, UndefinedThird, CutEnd}
+use Rattle.beginning.specs.declared.Beginning.{Beginning}
+use Rattle.beginning.specs.declared.Beginning.the-variants.{Instruction, UndefinedSecond, UndefinedThird, CutEnd}
 
 -- It has at most n bytes; of a cut end nothing is said.
 abbrev pub Within : ℕ → Beginning → Type 0

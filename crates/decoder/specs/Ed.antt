@@ -5,16 +5,16 @@ use Rattle.std.specs.declared.option.Option.the-variants.{Some, None}
 use Rattle.registers.specs.declared.operand.Direction.{Direction}
 use Rattle.registers.specs.declared.operand.Register.{Register}
 use Rattle.registers.specs.declared.registers.InterruptMode.the-variants as mode
-use Rattle.instructions.specs.Field.{x, y, z, p, q, one-of-2, one-of-4, one-of-8, register, pair, direction}
+use Rattle.decoder.specs.Field.{x, y, z, p, q, one-of-2, one-of-4, one-of-8, register, pair, direction}
 use Rattle.instructions.specs.declared.group.arithmetic.Arithmetic.the-variants as arithmetic
 use Rattle.instructions.specs.declared.group.block.Block.the-variants as block
 use Rattle.instructions.specs.declared.group.call.Call.the-variants as call
 use Rattle.instructions.specs.declared.group.control.Control.the-variants as control
 use Rattle.instructions.specs.declared.group.load.Load.the-variants as load
 use Rattle.instructions.specs.declared.group.port.Port.the-variants as port
 use Rattle.instructions.specs.declared.group.rotation.Rotation.the-variants as rotation
 use Rattle.instructions.specs.declared.instruction.Instruction.{Instruction}
 use Rattle.instructions.specs.declared.instruction.Instruction.the-variants.{Load, Arithmetic, Rotate, Call, Block, Port, Control}
 
 -- 00rrr000, 00rrr001, 01rrr000 and 01rrr001
 abbrev pub input-zero : Option Register → Option Instruction

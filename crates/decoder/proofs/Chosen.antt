@@ -5,7 +5,7 @@ use Prim.Native.Nat.{ℕ, _<_, _≤_}
 use native.Mathlib.Omega.{arith}
 use borrow.Author.Tests.{ne-eqb}
 use lib.Dec.{eqb}
-use Rattle.instructions.specs.Field.{one-of-8}
+use Rattle.decoder.specs.Field.{one-of-8}
 
 -- the last of eight, where n is none of the seven before
 pub last-of-8 : {A : Type 0} (n : ℕ) (a b c d e f g h : A) → 7 ≤ n → h ≡ one-of-8 n a b c d e f g h

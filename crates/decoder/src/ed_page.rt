@@ -1,18 +1,18 @@
 // The page behind EDH.
-ghost use Rattle.instructions.specs.Ed as of;
-ghost use Rattle.instructions.specs.Field as field;
+ghost use Rattle.decoder.specs.Ed as of;
+ghost use Rattle.decoder.specs.Field as field;
 ghost use mathlib.Core.Path.{_≡_};
 use crate::field::direction;
 use crate::field::pair;
 use crate::field::register;
-use crate::group::arithmetic::Arithmetic;
-use crate::group::block::Block;
-use crate::group::call::Call;
-use crate::group::control::Control;
-use crate::group::load::Load;
-use crate::group::port::Port;
-use crate::group::rotation::Rotation;
-use crate::instruction::Instruction;
+use instructions::group::arithmetic::Arithmetic;
+use instructions::group::block::Block;
+use instructions::group::call::Call;
+use instructions::group::control::Control;
+use instructions::group::load::Load;
+use instructions::group::port::Port;
+use instructions::group::rotation::Rotation;
+use instructions::instruction::Instruction;
 use registers::operand::Direction;
 use registers::registers::InterruptMode;
 
