@@ -5,10 +5,10 @@ use Prim.Native.Nat.{ℕ, zero, suc}
 use Rattle.std.specs.declared.option.Option.{Option}
 use Rattle.std.specs.declared.option.Option.the-variants.{Some, None}
 use Rattle.instructions.specs.declared.instruction.Instruction.{Instruction}
-use Rattle.instructions.specs.declared.page.First.{First}
-use Rattle.instructions.specs.declared.page.First.the-variants as first
-use Rattle.instructions.specs.declared.page.Second.{Second}
-use Rattle.instructions.specs.declared.page.Second.the-variants as second
+use Rattle.decoder.specs.declared.page.First.{First}
+use Rattle.decoder.specs.declared.page.First.the-variants as first
+use Rattle.decoder.specs.declared.page.Second.{Second}
+use Rattle.decoder.specs.declared.page.Second.the-variants as second
 
 abbrev pub with : Bool → ℕ → List ℕ → List ℕ
 with true n others = n ∷ others

@@ -1,20 +1,20 @@
 -- The bytes that each page defines are exactly those of the data book's maps. Assumes nothing.
 use mathlib.Core.Path.{_≡_}
-use mathlib.Core.List.{List, [], _∷_}
+use mathlib.Core.List.{[], _∷_}
 use Prim.Native.Nat.{ℕ, _+_}
 use lib.ListN.{length}
 use Rattle.std.specs.declared.option.Option.{Option}
 use Rattle.registers.specs.declared.operand.Index.{Index}
 use Rattle.registers.specs.declared.operand.Index.the-variants.{Ix, Iy}
-use Rattle.instructions.specs.Cb as cb
-use Rattle.instructions.specs.Ed as ed
-use Rattle.instructions.specs.Indexed as indexed
-use Rattle.instructions.specs.IndexedCb as indexed-cb
-use Rattle.instructions.specs.Main as main
+use Rattle.decoder.specs.Cb as cb
+use Rattle.decoder.specs.Ed as ed
+use Rattle.decoder.specs.Indexed as indexed
+use Rattle.decoder.specs.IndexedCb as indexed-cb
+use Rattle.decoder.specs.Main as main
 use Rattle.instructions.specs.declared.instruction.Instruction.{Instruction}
-use Rattle.instructions.specs.declared.page.First.the-variants.{Prefix}
-use Rattle.instructions.specs.declared.page.Page.the-variants.{Bits, Extended, Indexed}
-use Rattle.instructions.specs.declared.page.Second.the-variants.{BitsPrefix}
+use Rattle.decoder.specs.declared.page.First.the-variants.{Prefix}
+use Rattle.decoder.specs.declared.page.Page.the-variants.{Bits, Extended, Indexed}
+use Rattle.decoder.specs.declared.page.Second.the-variants.{BitsPrefix}
 use Rattle.instructions_laws.specs.Bytes.{bytes-that, of-first, of-second, is-instruction, is-none}
 
 -- The main page has no undefined byte: all but four are instructions, and those lead to other pages.

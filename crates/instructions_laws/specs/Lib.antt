@@ -1,3 +1,4 @@
+pub mod Beginnings
 pub mod Bytes
 pub mod Codes
 pub mod Defined

@@ -6,11 +6,11 @@ use Prim.Native.Nat.{ℕ}
 use Rattle.std.specs.declared.option.Option.{Option}
 use Rattle.std.specs.declared.option.Option.the-variants.{Some, None}
 use Rattle.registers.specs.declared.operand.Index.{Index}
-use Rattle.instructions.specs.Cb as cb
-use Rattle.instructions.specs.Ed as ed
-use Rattle.instructions.specs.Indexed as indexed
-use Rattle.instructions.specs.IndexedCb as indexed-cb
-use Rattle.instructions.specs.Main as main
+use Rattle.decoder.specs.Cb as cb
+use Rattle.decoder.specs.Ed as ed
+use Rattle.decoder.specs.Indexed as indexed
+use Rattle.decoder.specs.IndexedCb as indexed-cb
+use Rattle.decoder.specs.Main as main
 use Rattle.instructions.specs.declared.instruction.Instruction.{Instruction}
 use Rattle.instructions_laws.specs.Bytes.{of-first, of-second, each-byte}
 use Rattle.instructions_laws.specs.Opcode as opcode

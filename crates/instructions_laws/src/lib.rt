@@ -1,4 +1,5 @@
 // The laws of decoding, in the words of the subject. Each function stands for the laws that it ensures.
+ghost use Rattle.instructions_laws.specs.Beginnings.{Beginning-laws};
 ghost use Rattle.instructions_laws.specs.Defined as defined;
 ghost use Rattle.instructions_laws.specs.Lengths as lengths;
 ghost use Rattle.instructions_laws.specs.Named as named;
@@ -29,4 +30,9 @@ pub fn opcodes()
     ensures ed { λ _. ⌜ named.Ed-page ⌝ }
     ensures indexed { λ _. ⌜ named.Indexed-page ⌝ }
     ensures displaced { λ _. ⌜ named.Indexed-cb-page ⌝ }
+{}
+
+// What a run of bytes begins with.
+pub fn beginnings()
+    ensures { λ _. ⌜ Beginning-laws ⌝ }
 {}

@@ -7,17 +7,17 @@ use Rattle.registers.specs.Ports.{on-cpu}
 use Rattle.registers.specs.Registers.{Processor, up, with-itc}
 use Rattle.instructions.specs.declared.instruction.Instruction.{Instruction}
 use Rattle.instructions.specs.declared.instruction.Instruction.the-variants as instruction
-use Rattle.instructions.specs.declared.page.First.{First}
-use Rattle.instructions.specs.declared.page.First.the-variants as first
-use Rattle.instructions.specs.declared.page.Page.{Page}
-use Rattle.instructions.specs.declared.page.Page.the-variants as page
-use Rattle.instructions.specs.declared.page.Second.{Second}
-use Rattle.instructions.specs.declared.page.Second.the-variants as second
-use Rattle.instructions.specs.Main as main
-use Rattle.instructions.specs.Cb as cb
-use Rattle.instructions.specs.Ed as ed
-use Rattle.instructions.specs.Indexed as indexed
-use Rattle.instructions.specs.IndexedCb as indexed-cb
+use Rattle.decoder.specs.declared.page.First.{First}
+use Rattle.decoder.specs.declared.page.First.the-variants as first
+use Rattle.decoder.specs.declared.page.Page.{Page}
+use Rattle.decoder.specs.declared.page.Page.the-variants as page
+use Rattle.decoder.specs.declared.page.Second.{Second}
+use Rattle.decoder.specs.declared.page.Second.the-variants as second
+use Rattle.decoder.specs.Main as main
+use Rattle.decoder.specs.Cb as cb
+use Rattle.decoder.specs.Ed as ed
+use Rattle.decoder.specs.Indexed as indexed
+use Rattle.decoder.specs.IndexedCb as indexed-cb
 use Rattle.cycles.specs.Tree.{Cycles}
 use Rattle.processor.specs.Arithmetic.{calculates}
 use Rattle.processor.specs.Bit.{bits-of}

@@ -1,12 +1,12 @@
 // The page behind CBH: rotates, shifts and single bits, of a register or (HL).
-ghost use Rattle.instructions.specs.Cb as of;
-ghost use Rattle.instructions.specs.Field as field;
+ghost use Rattle.decoder.specs.Cb as of;
+ghost use Rattle.decoder.specs.Field as field;
 ghost use mathlib.Core.Path.{_≡_};
 use crate::field::register;
 use crate::field::rotate;
-use crate::group::bit::Bit;
-use crate::group::rotation::Rotation;
-use crate::instruction::Instruction;
+use instructions::group::bit::Bit;
+use instructions::group::rotation::Rotation;
+use instructions::instruction::Instruction;
 
 fn rotated(y: u8, z: u8) -> Option<Instruction>
     ensures { λ r. ⌜ r ≡ of.rotated (field.rotate y) (field.register z) ⌝ }

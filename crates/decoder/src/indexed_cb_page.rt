@@ -1,11 +1,11 @@
 // The page behind DDH CBH d or FDH CBH d: rotates, shifts and single bits of (IX+d).
-ghost use Rattle.instructions.specs.Field as field;
-ghost use Rattle.instructions.specs.IndexedCb as of;
+ghost use Rattle.decoder.specs.Field as field;
+ghost use Rattle.decoder.specs.IndexedCb as of;
 ghost use mathlib.Core.Path.{_≡_};
 use crate::field::rotate;
-use crate::group::bit::Bit;
-use crate::group::rotation::Rotation;
-use crate::instruction::Instruction;
+use instructions::group::bit::Bit;
+use instructions::group::rotation::Rotation;
+use instructions::instruction::Instruction;
 use registers::operand::Index;
 
 fn rotated(index: Index, y: u8) -> Option<Instruction>

@@ -8,20 +8,20 @@ use Rattle.registers.specs.declared.operand.Condition.the-variants as if
 use Rattle.registers.specs.declared.operand.Index.the-variants.{Ix, Iy}
 use Rattle.registers.specs.declared.operand.Pointer.the-variants as pointer
 use Rattle.registers.specs.declared.operand.Register.{Register}
-use Rattle.instructions.specs.Field.{x, y, z, p, q, one-of-2, one-of-4, one-of-8, register, pair, stack-pair, condition, operation}
+use Rattle.decoder.specs.Field.{x, y, z, p, q, one-of-2, one-of-4, one-of-8, register, pair, stack-pair, condition, operation}
 use Rattle.instructions.specs.declared.group.arithmetic.Arithmetic.the-variants as arithmetic
 use Rattle.instructions.specs.declared.group.call.Call.the-variants as call
 use Rattle.instructions.specs.declared.group.control.Control.the-variants as control
 use Rattle.instructions.specs.declared.group.exchange.Exchange.the-variants as exchange
 use Rattle.instructions.specs.declared.group.jump.Jump.the-variants as jump
 use Rattle.instructions.specs.declared.group.load.Load.the-variants as load
 use Rattle.instructions.specs.declared.group.port.Port.the-variants as port
 use Rattle.instructions.specs.declared.group.rotation.Rotation.the-variants as rotation
 use Rattle.instructions.specs.declared.instruction.Instruction.{Instruction}
 use Rattle.instructions.specs.declared.instruction.Instruction.the-variants.{Load, Exchange, Arithmetic, Rotate, Jump, Call, Port, Control}
-use Rattle.instructions.specs.declared.page.First.{First}
-use Rattle.instructions.specs.declared.page.First.the-variants as first
-use Rattle.instructions.specs.declared.page.Page.the-variants as page
+use Rattle.decoder.specs.declared.page.First.{First}
+use Rattle.decoder.specs.declared.page.First.the-variants as first
+use Rattle.decoder.specs.declared.page.Page.the-variants as page
 
 -- 00yyy000
 abbrev pub relative : ℕ → Instruction

@@ -1,16 +1,16 @@
 // The page behind DDH or FDH, which names the index register.
-ghost use Rattle.instructions.specs.Field as field;
-ghost use Rattle.instructions.specs.Indexed as of;
+ghost use Rattle.decoder.specs.Field as field;
+ghost use Rattle.decoder.specs.Indexed as of;
 ghost use mathlib.Core.Path.{_≡_};
 use crate::field::addend;
 use crate::field::operation;
 use crate::field::register;
-use crate::group::arithmetic::Arithmetic;
-use crate::group::exchange::Exchange;
-use crate::group::jump::Jump;
-use crate::group::load::Load;
-use crate::instruction::Instruction;
 use crate::page::Second;
+use instructions::group::arithmetic::Arithmetic;
+use instructions::group::exchange::Exchange;
+use instructions::group::jump::Jump;
+use instructions::group::load::Load;
+use instructions::instruction::Instruction;
 use registers::operand::Index;
 
 fn words(index: Index, y: u8) -> Second

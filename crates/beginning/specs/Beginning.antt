@@ -7,21 +7,21 @@ use lib.ListN.{length, getD}
 use Rattle.std.specs.declared.option.Option.{Option}
 use Rattle.std.specs.declared.option.Option.the-variants.{Some, None}
 use Rattle.registers.specs.declared.operand.Index.{Index}
-use Rattle.instructions.specs.Cb as cb
-use Rattle.instructions.specs.Ed as ed
-use Rattle.instructions.specs.Indexed as indexed
-use Rattle.instructions.specs.IndexedCb as indexed-cb
+use Rattle.decoder.specs.Cb as cb
+use Rattle.decoder.specs.Ed as ed
+use Rattle.decoder.specs.Indexed as indexed
+use Rattle.decoder.specs.IndexedCb as indexed-cb
 use Rattle.instructions.specs.Length as instruction
-use Rattle.instructions.specs.Main as main
-use Rattle.instructions.specs.declared.beginning.Beginning.{Beginning}
-use Rattle.instructions.specs.declared.beginning.Beginning.the-variants.{Instruction, UndefinedSecond, UndefinedThird, CutEnd}
+use Rattle.decoder.specs.Main as main
+use Rattle.beginning.specs.declared.Beginning.{Beginning}
+use Rattle.beginning.specs.declared.Beginning.the-variants.{Instruction, UndefinedSecond, UndefinedThird, CutEnd}
 use Rattle.instructions.specs.declared.instruction as form
-use Rattle.instructions.specs.declared.page.First.{First}
-use Rattle.instructions.specs.declared.page.First.the-variants as first
-use Rattle.instructions.specs.declared.page.Page.{Page}
-use Rattle.instructions.specs.declared.page.Page.the-variants as page
-use Rattle.instructions.specs.declared.page.Second.{Second}
-use Rattle.instructions.specs.declared.page.Second.the-variants as second
+use Rattle.decoder.specs.declared.page.First.{First}
+use Rattle.decoder.specs.declared.page.First.the-variants as first
+use Rattle.decoder.specs.declared.page.Page.{Page}
+use Rattle.decoder.specs.declared.page.Page.the-variants as page
+use Rattle.decoder.specs.declared.page.Second.{Second}
+use Rattle.decoder.specs.declared.page.Second.the-variants as second
 
 -- The instruction, if the bytes hold it whole.
 abbrev pub whole : List ℕ → form.Instruction.Instruction → Beginning

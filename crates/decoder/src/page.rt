@@ -1,5 +1,5 @@
 // What an opcode byte answers on a page whose bytes may lead to another page.
-use crate::instruction::Instruction;
+use instructions::instruction::Instruction;
 use registers::operand::Index;
 
 // The pages that a first byte leads to: CBH, EDH, and DDH or FDH.

@@ -5,16 +5,16 @@ use Rattle.std.specs.declared.option.Option.the-variants.{Some, None}
 use Rattle.registers.specs.declared.operand.Direction.{Direction}
 use Rattle.registers.specs.declared.operand.Register.{Register}
 use Rattle.registers.specs.declared.registers.InterruptMode.the-variants as mode
-use Rattle.instructions.specs.Field.{x, y, z, p, q, one-of-2, one-of-4, one-of-8, register, pair, direction}
+use Rattle.decoder.specs.Field.{x, y, z, p, q, one-of-2, one-of-4, one-of-8, register, pair, direction}
 use Rattle.instructions.specs.declared.group.arithmetic.Arithmetic.the-variants as arithmetic
 use Rattle.instructions.specs.declared.group.block.Block.the-variants as block
 use Rattle.instructions.specs.declared.group.call.Call.the-variants as call
 use Rattle.instructions.specs.declared.group.control.Control.the-variants as control
 use Rattle.instructions.specs.declared.group.load.Load.the-variants as load
 use Rattle.instructions.specs.declared.group.port.Port.the-variants as port
 use Rattle.instructions.specs.declared.group.rotation.Rotation.the-variants as rotation
 use Rattle.instructions.specs.declared.instruction.Instruction.{Instruction}
 use Rattle.instructions.specs.declared.instruction.Instruction.the-variants.{Load, Arithmetic, Rotate, Call, Block, Port, Control}
 
 -- 00rrr000, 00rrr001, 01rrr000 and 01rrr001
 abbrev pub input-zero : Option Register → Option Instruction
@@ -103,32 +103,27 @@ middle y z =
     (modes y)
     (accumulator y)
 
--- 10ppq000 to 10ppq011
-abbrev pub transfers : ℕ → Direction → Option Instruction
-transfers p way = one-of-4 p None None (Some (Block (block.Transfer way))) (Some (Block (block.TransferRepeated way)))
+-- A block instruction, once or repeated.
+abbrev pub repeatable : ℕ → Instruction → Instruction → Option Instruction
+repeatable p once repeated = one-of-4 p None None (Some once) (Some repeated)
 
-abbrev pub comparisons : ℕ → Direction → Option Instruction
-comparisons p way = one-of-4 p None None (Some (Block (block.Compare way))) (Some (Block (block.CompareRepeated way)))
-
-abbrev pub inputs : ℕ → Direction → Option Instruction
-inputs p way = one-of-4 p None None (Some (Port (port.InputBlock way))) (Some (Port (port.InputRepeated way)))
-
-abbrev pub outputs : ℕ → Direction → Option Instruction
+-- 10ppq011
+abbrev pub outputs : ℕ → Direction → Instruction
 outputs p way =
     one-of-4 p
-    (Some (Port (port.OutputZeroBlock way)))
-    (Some (Port (port.OutputZeroRepeated way)))
-    (Some (Port (port.OutputBlock way)))
-    (Some (Port (port.OutputRepeated way)))
+    (Port (port.OutputZeroBlock way))
+    (Port (port.OutputZeroRepeated way))
+    (Port (port.OutputBlock way))
+    (Port (port.OutputRepeated way))
 
--- 10yyyzzz
-abbrev pub blocks : ℕ → ℕ → Option Instruction
-blocks y z =
+-- 10ppqzzz
+abbrev pub blocks : ℕ → Direction → ℕ → Option Instruction
+blocks p way z =
     one-of-8 z
-    (transfers (p y) (direction (q y)))
-    (comparisons (p y) (direction (q y)))
-    (inputs (p y) (direction (q y)))
-    (outputs (p y) (direction (q y)))
+    (repeatable p (Block (block.Transfer way)) (Block (block.TransferRepeated way)))
+    (repeatable p (Block (block.Compare way)) (Block (block.CompareRepeated way)))
+    (repeatable p (Port (port.InputBlock way)) (Port (port.InputRepeated way)))
+    (Some (outputs p way))
     None
     None
     None
@@ -136,4 +131,4 @@ blocks y z =
 
 abbrev pub decoded : ℕ → Option Instruction
 decoded byte =
-    one-of-4 (x byte) (low (y byte) (z byte)) (middle (y byte) (z byte)) (blocks (y byte) (z byte)) None
+    one-of-4 (x byte) (low (y byte) (z byte)) (middle (y byte) (z byte)) (blocks (p (y byte)) (direction (q (y byte))) (z byte)) None

@@ -1,9 +1,9 @@
 // The fields of an opcode byte: bits 7 and 6 (x), 5 to 3 (y) and 2 to 0 (z), and what the operand fields name.
-ghost use Rattle.instructions.specs.Field as of;
+ghost use Rattle.decoder.specs.Field as of;
 ghost use mathlib.Core.Path.{_≡_};
-use crate::group::arithmetic::Addend;
 use arithmetic::operation::Operation;
 use arithmetic::rotate::Rotate;
+use instructions::group::arithmetic::Addend;
 use registers::operand::Condition;
 use registers::operand::Direction;
 use registers::operand::Pair;

@@ -6,11 +6,11 @@ use Rattle.std.specs.declared.option.Option.{Option}
 use Rattle.std.specs.declared.option.Option.the-variants.{Some, None}
 use Rattle.arithmetic.specs.declared.rotate.Rotate.{Rotate}
 use Rattle.registers.specs.declared.operand.Index.{Index}
-use Rattle.instructions.specs.Field.{x, y, z, one-of-4, rotate}
+use Rattle.decoder.specs.Field.{x, y, z, one-of-4, rotate}
 use Rattle.instructions.specs.declared.group.bit.Bit.the-variants as bit
 use Rattle.instructions.specs.declared.group.rotation.Rotation.the-variants as rotation
 use Rattle.instructions.specs.declared.instruction.Instruction.{Instruction}
 use Rattle.instructions.specs.declared.instruction.Instruction.the-variants as instruction
 
 -- 00yyy110
 abbrev pub rotated : Index → Option Rotate → Option Instruction

@@ -1,15 +1,15 @@
 // What a run of bytes begins with: an instruction, a prefix with an undefined byte behind it, or the start of one.
-ghost use Rattle.instructions.specs.Beginning as of;
+ghost use Rattle.beginning.specs.Beginning as of;
 ghost use mathlib.Core.Path.{_≡_};
-use crate::cb_page;
-use crate::ed_page;
-use crate::indexed_cb_page;
-use crate::indexed_page;
-use crate::instruction::Instruction;
-use crate::main_page;
-use crate::page::First;
-use crate::page::Page;
-use crate::page::Second;
+use decoder::cb_page;
+use decoder::ed_page;
+use decoder::indexed_cb_page;
+use decoder::indexed_page;
+use decoder::main_page;
+use decoder::page::First;
+use decoder::page::Page;
+use decoder::page::Second;
+use instructions::instruction::Instruction;
 use registers::operand::Index;
 
 #[derive(Clone, Copy)]

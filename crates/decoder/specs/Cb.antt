@@ -4,11 +4,11 @@ use Rattle.std.specs.declared.option.Option.{Option}
 use Rattle.std.specs.declared.option.Option.the-variants.{Some, None}
 use Rattle.arithmetic.specs.declared.rotate.Rotate.{Rotate}
 use Rattle.registers.specs.declared.operand.Register.{Register}
-use Rattle.instructions.specs.Field.{x, y, z, one-of-4, register, rotate}
+use Rattle.decoder.specs.Field.{x, y, z, one-of-4, register, rotate}
 use Rattle.instructions.specs.declared.group.bit.Bit.the-variants as bit
 use Rattle.instructions.specs.declared.group.rotation.Rotation.the-variants as rotation
 use Rattle.instructions.specs.declared.instruction.Instruction.{Instruction}
 use Rattle.instructions.specs.declared.instruction.Instruction.the-variants as instruction
 
 -- 00yyyrrr
 abbrev pub rotated : Option Rotate → Option Register → Option Instruction

@@ -1,18 +1,18 @@
 // The page behind EDH.
-ghost use Rattle.instructions.specs.Ed as of;
-ghost use Rattle.instructions.specs.Field as field;
+ghost use Rattle.decoder.specs.Ed as of;
+ghost use Rattle.decoder.specs.Field as field;
 ghost use mathlib.Core.Path.{_≡_};
 use crate::field::direction;
 use crate::field::pair;
 use crate::field::register;
-use crate::group::arithmetic::Arithmetic;
-use crate::group::block::Block;
-use crate::group::call::Call;
-use crate::group::control::Control;
-use crate::group::load::Load;
-use crate::group::port::Port;
-use crate::group::rotation::Rotation;
-use crate::instruction::Instruction;
+use instructions::group::arithmetic::Arithmetic;
+use instructions::group::block::Block;
+use instructions::group::call::Call;
+use instructions::group::control::Control;
+use instructions::group::load::Load;
+use instructions::group::port::Port;
+use instructions::group::rotation::Rotation;
+use instructions::instruction::Instruction;
 use registers::operand::Direction;
 use registers::registers::InterruptMode;
 
@@ -149,58 +149,49 @@ fn middle(y: u8, z: u8) -> Option<Instruction>
     }
 }
 
-fn transfers(p: u8, way: Direction) -> Option<Instruction>
-    ensures { λ r. ⌜ r ≡ of.transfers p way ⌝ }
+fn repeatable(p: u8, once: Instruction, repeated: Instruction) -> Option<Instruction>
+    ensures { λ r. ⌜ r ≡ of.repeatable p once repeated ⌝ }
 {
     match p {
         0 | 1 => None,
-        2 => Some(Instruction::Block(Block::Transfer(way))),
-        _ => Some(Instruction::Block(Block::TransferRepeated(way))),
+        2 => Some(once),
+        _ => Some(repeated),
     }
 }
 
-fn comparisons(p: u8, way: Direction) -> Option<Instruction>
-    ensures { λ r. ⌜ r ≡ of.comparisons p way ⌝ }
-{
-    match p {
-        0 | 1 => None,
-        2 => Some(Instruction::Block(Block::Compare(way))),
-        _ => Some(Instruction::Block(Block::CompareRepeated(way))),
-    }
-}
-
-fn inputs(p: u8, way: Direction) -> Option<Instruction>
-    ensures { λ r. ⌜ r ≡ of.inputs p way ⌝ }
-{
-    match p {
-        0 | 1 => None,
-        2 => Some(Instruction::Port(Port::InputBlock(way))),
-        _ => Some(Instruction::Port(Port::InputRepeated(way))),
-    }
-}
-
-fn outputs(p: u8, way: Direction) -> Option<Instruction>
+fn outputs(p: u8, way: Direction) -> Instruction
     ensures { λ r. ⌜ r ≡ of.outputs p way ⌝ }
 {
-    Some(Instruction::Port(
+    Instruction::Port(
         match p {
             0 => Port::OutputZeroBlock(way),
             1 => Port::OutputZeroRepeated(way),
             2 => Port::OutputBlock(way),
             _ => Port::OutputRepeated(way),
         },
-    ))
+    )
 }
 
-fn blocks(y: u8, z: u8) -> Option<Instruction>
-    ensures { λ r. ⌜ r ≡ of.blocks y z ⌝ }
+fn blocks(p: u8, way: Direction, z: u8) -> Option<Instruction>
+    ensures { λ r. ⌜ r ≡ of.blocks p way z ⌝ }
 {
-    let way = direction(y % 2);
     match z {
-        0 => transfers(y / 2, way),
-        1 => comparisons(y / 2, way),
-        2 => inputs(y / 2, way),
-        3 => outputs(y / 2, way),
+        0 => repeatable(
+            p,
+            Instruction::Block(Block::Transfer(way)),
+            Instruction::Block(Block::TransferRepeated(way)),
+        ),
+        1 => repeatable(
+            p,
+            Instruction::Block(Block::Compare(way)),
+            Instruction::Block(Block::CompareRepeated(way)),
+        ),
+        2 => repeatable(
+            p,
+            Instruction::Port(Port::InputBlock(way)),
+            Instruction::Port(Port::InputRepeated(way)),
+        ),
+        3 => Some(outputs(p, way)),
         _ => None,
     }
 }
@@ -214,7 +205,7 @@ pub fn decode(byte: u8) -> Option<Instruction>
     match byte / 64 {
         0 => low(y, z),
         1 => middle(y, z),
-        2 => blocks(y, z),
+        2 => blocks(y / 2, direction(y % 2), z),
         _ => None,
     }
 }

@@ -7,14 +7,14 @@ use Rattle.std.specs.declared.option.Option.the-variants.{Some, None}
 use Rattle.arithmetic.specs.declared.operation.Operation.{Operation}
 use Rattle.registers.specs.declared.operand.Index.{Index}
 use Rattle.registers.specs.declared.operand.Register.{Register}
-use Rattle.instructions.specs.Field.{x, y, z, p, q, one-of-2, one-of-4, one-of-8, register, addend, operation}
+use Rattle.decoder.specs.Field.{x, y, z, p, q, one-of-2, one-of-4, one-of-8, register, addend, operation}
 use Rattle.instructions.specs.declared.group.arithmetic.Arithmetic.the-variants as arithmetic
 use Rattle.instructions.specs.declared.group.exchange.Exchange.the-variants as exchange
 use Rattle.instructions.specs.declared.group.jump.Jump.the-variants as jump
 use Rattle.instructions.specs.declared.group.load.Load.the-variants as load
 use Rattle.instructions.specs.declared.instruction.Instruction.the-variants.{Load, Exchange, Arithmetic, Jump}
-use Rattle.instructions.specs.declared.page.Second.{Second}
-use Rattle.instructions.specs.declared.page.Second.the-variants.{Instruction, BitsPrefix, Undefined}
+use Rattle.decoder.specs.declared.page.Second.{Second}
+use Rattle.decoder.specs.declared.page.Second.the-variants.{Instruction, BitsPrefix, Undefined}
 
 -- What stands where y has one value, and nothing elsewhere.
 abbrev pub only : ℕ → ℕ → Second → Second
