@@ -1,4 +1,6 @@
 // The processor's 8- and 16-bit operations. Each answers its value together with the flags that it leaves.
+#![tactic(auto)]
+
 pub mod add;
 pub mod bits;
 pub mod block;

@@ -1,4 +1,6 @@
 // The laws of the processor's arithmetic, in the words of the subject. Each function stands for the laws that it ensures.
+#![tactic(auto)]
+
 ghost use Rattle.arithmetic_laws.specs.Bits as bits;
 ghost use Rattle.arithmetic_laws.specs.Decimal as decimal;
 ghost use Rattle.arithmetic_laws.specs.Increment as increment;

@@ -1,4 +1,6 @@
 // What a run of bytes begins with: an instruction, a prefix with an undefined byte behind it, or the start of one.
+#![tactic(auto)]
+
 ghost use Rattle.beginning.specs.Beginning as of;
 ghost use Rattle.std.specs.Prelude.{◌≡◌};
 

@@ -1,5 +1,7 @@
 // Runs the busy image for as many steps as standard input says, in decimal, and prints what bench/z80ex-run.c prints of
 // the same steps, for comparing and for timing.
+#![tactic(auto)]
+
 mod image;
 mod sum;
 

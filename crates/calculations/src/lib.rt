@@ -1,4 +1,6 @@
 // Arithmetic and logic, rotates and shifts, and single bits, in code.
+#![tactic(auto)]
+
 pub mod arithmetic;
 pub mod bit;
 mod byte_change;

@@ -1,4 +1,6 @@
 // The card: a processor with one memory and one panel, and what is called on it.
+#![tactic(auto)]
+
 mod calls;
 pub mod card;
 mod host;

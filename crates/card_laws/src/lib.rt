@@ -1,5 +1,7 @@
 // Laws of the processor's definition that hold on every card. There is no code to run here: each function names laws, so that
 // they are proved, and does nothing.
+#![tactic(auto)]
+
 ghost use Rattle.card_laws.specs.Every.{Branches, Every};
 ghost use Rattle.card_laws.specs.Frame.{Frame};
 ghost use Rattle.card_laws.specs.Order.{Orders};

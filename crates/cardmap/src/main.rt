@@ -1,4 +1,6 @@
 // cardmap [CBAR CBR BBR]: prints what the window shows of the memory image on standard input.
+#![tactic(auto)]
+
 use anyhow::anyhow;
 use pagemap::listing::listing;
 use std::env;

@@ -1,4 +1,6 @@
 // cardrun: puts the image on standard input into a card's bank, runs the card for 1,000 states, and prints the plot.
+#![tactic(auto)]
+
 use anyhow::anyhow;
 use plotting::image::plot;
 use std::io::Read;

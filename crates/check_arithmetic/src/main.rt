@@ -1,5 +1,7 @@
 // Prints a checksum of the results of each operation that the Z80 has too, over every operand and every F. What it must
 // print was made by another emulator: bench/z80ex-table.c, which says which flags are left out, and why.
+#![tactic(auto)]
+
 mod byte;
 mod digits;
 mod pair;

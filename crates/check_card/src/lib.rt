@@ -1,4 +1,6 @@
 // Tests of the card and of logs, on examples.
+#![tactic(auto)]
+
 #[cfg(test)]
 mod accesses;
 #[cfg(test)]

@@ -5,7 +5,7 @@ use answers::call::Call;
 use answers::same::same;
 use card::ran::{Ran, Stop};
 use denial::{Denial, Fault};
-use log::replay::replay;
+use card_log::replay::replay;
 use machine::cost::Cost;
 use memory::Memory;
 use memory::bank::Bank;

@@ -1,8 +1,8 @@
 // The same log on two makes of memory. The window of these logs opens on pages 0 to 15.
 use crate::cards::{pc_is, quiet};
 use answers::call::Call;
-use log::pair::replay_pair;
-use log::replayed::ReplayedPair;
+use card_log::pair::replay_pair;
+use card_log::replayed::ReplayedPair;
 use memory::Memory;
 use memory::bank::Bank;
 use memory::length::BoardLength;

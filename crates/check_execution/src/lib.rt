@@ -1,4 +1,6 @@
 // Tests of the step on examples, over a panel made for them.
+#![tactic(auto)]
+
 #[cfg(test)]
 mod card;
 #[cfg(test)]

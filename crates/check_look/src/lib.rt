@@ -1,4 +1,6 @@
 // How a host looks through another window, and that the card is as it was once the look has ended.
+#![tactic(auto)]
+
 ghost use Rattle.card.specs.Cards.{model, seen};
 ghost use Rattle.card.specs.Looks.{is_length};
 ghost use Rattle.check_look.specs.Filled.{filled};

@@ -1,4 +1,6 @@
 // Tests of boards, plugs, the window and the map of an image, on examples.
+#![tactic(auto)]
+
 #[cfg(test)]
 mod boards;
 #[cfg(test)]

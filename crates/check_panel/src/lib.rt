@@ -1,4 +1,6 @@
 // Tests of the panels, on examples.
+#![tactic(auto)]
+
 #[cfg(test)]
 mod chain;
 #[cfg(test)]

@@ -1,5 +1,7 @@
 // Makes the step of each vector on standard input and compares all that stands after it, then prints for each source of
 // vectors how many agree.
+#![tactic(auto)]
+
 mod access;
 mod cell;
 mod outcome;

@@ -1,5 +1,7 @@
 // The definition of what machine cycles do, and its laws. There is no code to run here: each function names a law, so that
 // it is proved, and does nothing.
+#![tactic(auto)]
+
 ghost use Rattle.cycles.specs.Footprint.{TreeLaws};
 
 use panel::Panel;

@@ -1,4 +1,6 @@
 // What the opcode bytes of an instruction mean, page by page, read from the bytes alone.
+#![tactic(auto)]
+
 pub mod cb_page;
 pub mod ed_page;
 mod field;

@@ -1,4 +1,6 @@
 // Why a call is denied: the causes, each with its number and the layer that denies.
+#![tactic(auto)]
+
 ghost use Rattle.denial.specs.Denials.{told};
 ghost use Rattle.std.specs.Prelude.{◌≡◌};
 

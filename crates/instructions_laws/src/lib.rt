@@ -1,4 +1,6 @@
 // The laws of decoding, in the words of the subject. Each function stands for the laws that it ensures.
+#![tactic(auto)]
+
 ghost use Rattle.instructions_laws.specs.Beginnings.{BeginningLaws};
 ghost use Rattle.instructions_laws.specs.Defined as defined;
 ghost use Rattle.instructions_laws.specs.Lengths as lengths;

@@ -1,5 +1,7 @@
 // What every step keeps, of every card. There is no code to run here: each function names a law, so that it is proved, and
 // does nothing.
+#![tactic(auto)]
+
 ghost use Rattle.invariants.specs.Fetches.{FetchesInOrder};
 ghost use Rattle.invariants.specs.Refresh.{RefreshKept};
 ghost use Rattle.invariants.specs.Room.{OutputRoom};

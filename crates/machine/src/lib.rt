@@ -1,4 +1,6 @@
 // What a step works on, and its machine cycles in code: every access to memory and panel, and every count, is made here.
+#![tactic(auto)]
+
 pub mod cost;
 mod cycle;
 mod port;

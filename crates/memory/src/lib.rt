@@ -1,4 +1,6 @@
 // What a memory is, and the two boards at the bottom of one: a bank, and a ROM-and-RAM board.
+#![tactic(auto)]
+
 ghost use Rattle.denial.specs.Denials.{answered};
 ghost use Rattle.memory.specs.Memory.{Mem, StoreLaws, accepted, fetched, store};
 ghost use Rattle.std.specs.Prelude.{◌≡◌};

@@ -1,4 +1,6 @@
 // What of a memory image a window shows, page by page, as text.
+#![tactic(auto)]
+
 pub mod arguments;
 pub mod crc;
 mod head;

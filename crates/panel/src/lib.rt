@@ -1,4 +1,6 @@
 // What a panel is, and two makes of it: the chain panel, which records a plot, and the script panel, which plays a list.
+#![tactic(auto)]
+
 ghost use Rattle.denial.specs.Denials.{answered};
 ghost use Rattle.panel.specs.Panel.{Make, accepted, wrote};
 ghost use Rattle.std.specs.Prelude.{◌≡◌};

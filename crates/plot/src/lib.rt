@@ -1,4 +1,6 @@
 // The listing of a plot as text: how a run ended, its registers, and the chains of the panel.
+#![tactic(auto)]
+
 pub mod laws;
 pub mod listing;
 mod record_line;

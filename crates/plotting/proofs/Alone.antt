@@ -8,7 +8,7 @@ use Rattle.processor.specs.Run.{Ran, is_budget, run}
 use Rattle.processor.specs.Step.{Model}
 use Rattle.denial.specs.Denials.{numbered}
 use Rattle.plot.specs.Listing.{text_of_plot}
-use Rattle.log.specs.Replays.{SoFar, reached}
+use Rattle.card_log.specs.Replays.{SoFar, reached}
 use Rattle.plotting.specs.Plotting.{filled, run_for, run_text}
 
 -- a list of one

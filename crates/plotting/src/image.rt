@@ -9,7 +9,7 @@ ghost use Rattle.processor.specs.Run.{is_budget};
 use crate::answer::run_answer;
 use crate::bench::{BYTES, bank_bytes, new_panel};
 use answers::call::Call;
-use log::replay::replay;
+use card_log::replay::replay;
 use memory::Memory;
 use memory::bank::Bank;
 use memory::length::BoardLength;

@@ -1,5 +1,7 @@
 // The definition of what the processor does in a step, and its laws. There is no code to run here: each function names a law,
 // so that it is proved, and does nothing.
+#![tactic(auto)]
+
 ghost use Rattle.processor.specs.Denials.{DenialLaws};
 ghost use Rattle.processor.specs.Example.{PresumptionMet};
 ghost use Rattle.processor.specs.Isolation.{Isolation};

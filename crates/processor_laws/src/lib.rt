@@ -1,5 +1,7 @@
 // The processor's definition held against the data book. There is no code to run here: each function names laws, so that they
 // are proved, and does nothing.
+#![tactic(auto)]
+
 ghost use Rattle.processor_laws.specs.Examples.{Examples};
 ghost use Rattle.processor_laws.specs.Interrupts.{Entries, Instead};
 ghost use Rattle.processor_laws.specs.Totals.{EdTotals, MainTotals, Pages, Totals};

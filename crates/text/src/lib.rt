@@ -1,3 +1,5 @@
 // Numbers as text: in hexadecimal, written and read, and in columns.
+#![tactic(auto)]
+
 pub mod columns;
 pub mod hex;

@@ -1,8 +1,8 @@
 // The same log on two cards, from their making on.
 ghost use Rattle.std.specs.Prelude.{◌≡◌, ◌<◌, true, map, length, take, IfOk, if◌then◌else◌, vec_len, vec_capacity};
 ghost use Rattle.answers.specs.Answers.{answer_of, call_of};
-ghost use Rattle.log.specs.Replays.{FirstDifference, Together, as_far_as, more, so_far};
-ghost use Rattle.log.specs.Rooms.{room_for};
+ghost use Rattle.card_log.specs.Replays.{FirstDifference, Together, as_far_as, more, so_far};
+ghost use Rattle.card_log.specs.Rooms.{room_for};
 
 use crate::difference::first_difference;
 use crate::replayed::ReplayedPair;

@@ -1,6 +1,6 @@
 use Rattle.std.proofs.Common.{arith}
-use Rattle.log.proofs.Looked.{saw}
-use Rattle.log.proofs.serving.look.Goals as goal
+use Rattle.card_log.proofs.Looked.{saw}
+use Rattle.card_log.proofs.serving.look.Goals as goal
 
 pub returns : goal.returns
 returns g c = record {

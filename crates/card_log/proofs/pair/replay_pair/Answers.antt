@@ -2,9 +2,9 @@ use Rattle.std.proofs.Common.{◌≡◌, ℕ, List, map, length, take, vec_items
 use borrow.Author.Tests.{both_ways}
 use Rattle.answers.specs.declared.answer.Answer.{Answer}
 use Rattle.answers.specs.Answers.{call_of}
-use Rattle.log.specs.Replays.{so_far}
-use Rattle.log.proofs.Lines.{even, handed, served, together}
-use Rattle.log.proofs.pair.replay_pair.Goals as goal
+use Rattle.card_log.specs.Replays.{so_far}
+use Rattle.card_log.proofs.Lines.{even, handed, served, together}
+use Rattle.card_log.proofs.pair.replay_pair.Goals as goal
 
 pub loop-i-init : goal.loop-i-init
 loop-i-init g c = (

@@ -4,9 +4,9 @@ use Rattle.processor.specs.Step.{Model}
 use Rattle.answers.specs.declared.answer.Answer.{Answer}
 use Rattle.answers.specs.Answers.{call_of}
 use Rattle.card.specs.Cards.{model}
-use Rattle.log.specs.Replays.{more, reached, so_far}
-use Rattle.log.proofs.Lines.{alone, served}
-use Rattle.log.proofs.replay.replay.Goals as goal
+use Rattle.card_log.specs.Replays.{more, reached, so_far}
+use Rattle.card_log.proofs.Lines.{alone, served}
+use Rattle.card_log.proofs.replay.replay.Goals as goal
 
 pub loop-i-init : goal.loop-i-init
 loop-i-init g c =

@@ -1,7 +1,7 @@
 use Rattle.std.proofs.Common.{◌≡◌, arith}
 use borrow.Author.Tests.{both_ways}
-use Rattle.log.proofs.Differing.{alike, differ, same_all}
-use Rattle.log.proofs.difference.first_difference.Goals as goal
+use Rattle.card_log.proofs.Differing.{alike, differ, same_all}
+use Rattle.card_log.proofs.difference.first_difference.Goals as goal
 
 pub returns-then-not-same : goal.returns-then-not-same
 returns-then-not-same c =

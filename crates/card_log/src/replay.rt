@@ -1,6 +1,6 @@
 // The log of one card, from its making on.
 ghost use Rattle.answers.specs.Answers.{call_of};
-ghost use Rattle.log.specs.Replays.{Alone, as_far_as, more, so_far};
+ghost use Rattle.card_log.specs.Replays.{Alone, as_far_as, more, so_far};
 ghost use Rattle.std.specs.Prelude.{◌≡◌, true, map, length, take, if◌then◌else◌};
 
 use crate::replayed::Replayed;

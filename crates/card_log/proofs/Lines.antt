@@ -11,7 +11,7 @@ use Rattle.answers.specs.declared.call.Call.{Call}
 use Rattle.answers.specs.Answers.{answer_of, call_of}
 use Rattle.memory.specs.Memory.{Mem}
 use Rattle.processor.proofs.Logs.{isolation}
-use Rattle.log.specs.Replays.{Alone, SoFar, Together, more, reached}
+use Rattle.card_log.specs.Replays.{Alone, SoFar, Together, more, reached}
 
 -- the calls of the first i + 1 lines
 pub one_more : (lines : List Call) (i : ℕ) (d : Call) → i < length lines → map call_of (take i lines) ++ (call_of (get_or lines i d) ∷ []) ≡ map call_of (take (i + 1) lines)

@@ -1,8 +1,8 @@
 use Rattle.std.proofs.Common.{◌≡◌, Bool, true, cond, List, [], ◌∷◌, ◌++◌, is_ok, vec_items, sym, ap, ◌∙◌}
 use Rattle.answers.specs.Answers.{call_of}
 use Rattle.card.specs.Cards.{model}
-use Rattle.log.proofs.Lines.{kept}
-use Rattle.log.proofs.serving.keep.Goals as goal
+use Rattle.card_log.proofs.Lines.{kept}
+use Rattle.card_log.proofs.serving.keep.Goals as goal
 
 pub returns : goal.returns
 returns g c =

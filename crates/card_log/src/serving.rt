@@ -3,8 +3,8 @@ ghost use Rattle.std.specs.Prelude.{◌≡◌, ◌<◌, IfOk, if◌then◌else�
 ghost use Rattle.answers.specs.Answers.{answer_of, call_of};
 ghost use Rattle.card.specs.Cards.{model};
 ghost use Rattle.denial.specs.Denials.{answered_by, numbered};
-ghost use Rattle.log.specs.Replays.{more, so_far};
-ghost use Rattle.log.specs.Rooms.{room_for};
+ghost use Rattle.card_log.specs.Replays.{more, so_far};
+ghost use Rattle.card_log.specs.Rooms.{room_for};
 ghost use Rattle.processor.specs.Log as log;
 ghost use Rattle.processor.specs.Run as running;
 

@@ -1,8 +1,8 @@
 use Rattle.std.proofs.Common.{◌≡◌, map, take, vec_items}
 use Rattle.answers.specs.Answers.{call_of}
 use Rattle.card.specs.Cards.{model}
-use Rattle.log.specs.Replays.{reached, so_far}
-use Rattle.log.proofs.pair.replay_pair.Given as goal
+use Rattle.card_log.specs.Replays.{reached, so_far}
+use Rattle.card_log.proofs.pair.replay_pair.Given as goal
 
 abbrev pub invariant-loop-i : goal.invariant-loop-i
 invariant-loop-i g l =

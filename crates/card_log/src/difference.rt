@@ -1,6 +1,6 @@
 // Where two lists of answers differ.
 ghost use Rattle.answers.specs.Answers.{answer_of};
-ghost use Rattle.log.specs.Replays.{FirstDifference};
+ghost use Rattle.card_log.specs.Replays.{FirstDifference};
 ghost use Rattle.std.specs.Prelude.{◌≡◌, map, length};
 
 use answers::answer::Answer;

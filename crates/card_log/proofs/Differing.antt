@@ -6,7 +6,7 @@ use Rattle.std.proofs.lemmas.List.{get_or-map}
 use Rattle.processor.specs.Log as log
 use Rattle.answers.specs.declared.answer.Answer.{Answer}
 use Rattle.answers.specs.Answers.{answer_of}
-use Rattle.log.specs.Replays.{FirstDifference}
+use Rattle.card_log.specs.Replays.{FirstDifference}
 
 module _ (xs ys : List Answer) (long : length xs ≡ length ys) where
   abbrev one : List log.Answer
