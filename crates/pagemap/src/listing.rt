@@ -11,12 +11,11 @@ use memory::Memory;
 use memory::bank::Bank;
 use memory::length::BoardLength;
 use registers::window::Window;
-use std::alloc::Global;
-use std::fmt;
+use std::alloc::{AllocError, Global};
 use text::hex::HexByte;
 
 // A line for each of the sixteen logical pages.
-fn pages<M: Memory>(text: &mut String, memory: &M, bytes: usize, window: Window) -> fmt::Result
+fn pages<M: Memory>(text: &mut String, memory: &M, bytes: usize, window: Window) -> Result<(), AllocError>
     ensures { OnOk result (string_bytes text.new ≡ string_bytes text.old ++ pages_text (M.Memory.memory memory.now) bytes window 16) }
 {
     for page in 0..16u8 {
@@ -27,7 +26,7 @@ fn pages<M: Memory>(text: &mut String, memory: &M, bytes: usize, window: Window)
 }
 
 // A physical page, if the window opens on it.
-fn opened_page(text: &mut String, window: Window, page: u8) -> fmt::Result
+fn opened_page(text: &mut String, window: Window, page: u8) -> Result<(), AllocError>
     ensures { OnOk result (string_bytes text.new ≡ string_bytes text.old ++ page_opened window page) }
 {
     if !window.opens_on(page) {
@@ -38,7 +37,7 @@ fn opened_page(text: &mut String, window: Window, page: u8) -> fmt::Result
 }
 
 // All physical pages that the window opens on.
-fn opened(text: &mut String, window: Window) -> fmt::Result
+fn opened(text: &mut String, window: Window) -> Result<(), AllocError>
     ensures { OnOk result (string_bytes text.new ≡ string_bytes text.old ++ opened_text window 128) }
 {
     for page in 0..128u8 {
@@ -53,7 +52,7 @@ fn map_text<M: Memory>(
     memory: &M,
     bytes: usize,
     window: Window,
-) -> Result<String, fmt::Error>
+) -> Result<String, AllocError>
     ensures { IfOk result (λ text. string_bytes text ≡ text_of_map (M.Memory.memory memory.now) bytes window) }
 {
     let head = Head { bytes, window };

@@ -139,15 +139,26 @@ ends_appended c ls k n x h e o = λ j. at j (cases_eq j k)
 
 -- What a chain panel's ghost fields say.
 abbrev pub Sound : List Record → List ℕ → List ℕ → ℕ → Type 0
-Sound t fs ls u =
-    ((length fs ≡ 3) × (length ls ≡ 3))
-    × (((2 ≤ length t) × (length t ≤ 4096))
-    × ((u < length t) × ((used (chains_in t fs) ≡ u) × (Ends (chains_in t fs) ls × (Once (chains_in t fs) u × Unit {0})))))
+Sound t fs ls u = record {
+  three : (length fs ≡ 3) × (length ls ≡ 3);
+  size : (2 ≤ length t) × (length t ≤ 4096);
+  room : u < length t;
+  total : used (chains_in t fs) ≡ u;
+  ends : Ends (chains_in t fs) ls;
+  once : Once (chains_in t fs) u
+}
 
 -- they hold if the chains are c, and c is in order
 pub sound_by : (c : ℕ → List Entry) (t : List Record) (fs ls : List ℕ) (u : ℕ) → chains_in t fs ≡ c → (length fs ≡ 3) × (length ls ≡ 3) → (2 ≤ length t) × (length t ≤ 4096) → u < length t → used c ≡ u → Ends c ls → Once c u → Sound t fs ls u
 sound_by c t fs ls u e three size room total ends once =
-    (three, (size, (room, (ap used e ∙ total, (subst (λ d. Ends d ls) (sym e) ends, (subst (λ d. Once d u) (sym e) once, tt))))))
+    record {
+      three = three;
+      size = size;
+      room = room;
+      total = ap used e ∙ total;
+      ends = subst (λ d. Ends d ls) (sym e) ends;
+      once = subst (λ d. Once d u) (sym e) once;
+    }
 
 pub sound_appended : (c : ℕ → List Entry) (t : List Record) (fs ls : List ℕ) (k u : ℕ) (x : Entry) → k < 3 → x.number ≡ u + 1 → chains_in t fs ≡ appended c k x → (length fs ≡ 3) × (length ls ≡ 3) → (2 ≤ length t) × (length t ≤ 4096) → u + 1 < length t → used c ≡ u → Ends c ls → Once c u → Sound t fs (set ls k (u + 1)) (u + 1)
 sound_appended c t fs ls k u x h e is three size room total ends once =

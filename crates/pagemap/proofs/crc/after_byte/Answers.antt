@@ -10,7 +10,7 @@ loop-bit-init c = ap (bit_xor c.args.crc) c.from.ensures
 pub loop-bit-preserved : goal.loop-bit-preserved
 unfolding crc_bits
 loop-bit-preserved c =
-    c.after-bit-after.ensures ∙ ap crc_bit c.loop-bit.invariant ∙ ap (λ k. crc_bits k (bit_xor c.args.crc c.args.byte)) (sym (add-one c.loop-bit.-bit))
+    c.after_bit-after.ensures ∙ ap crc_bit c.loop-bit.invariant ∙ ap (λ k. crc_bits k (bit_xor c.args.crc c.args.byte)) (sym (add-one c.loop-bit.-bit))
 
 pub returns : goal.returns
 returns c =

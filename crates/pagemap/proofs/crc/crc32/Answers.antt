@@ -8,7 +8,7 @@ pub loop-byte-preserved : goal.loop-byte-preserved
 loop-byte-preserved c =
     let bytes = c.args.bytes.now in
     let i = c.loop-byte.byte-index in
-    ap (λ crc. crc_after crc (drop (i + 1) bytes)) c.after-byte-crc.ensures
+    ap (λ crc. crc_after crc (drop (i + 1) bytes)) c.after_byte-crc.ensures
     ∙ sym (at_drop_more (crc_after c.loop-byte.crc) bytes i 0 c.loop-byte-test.true)
     ∙ c.loop-byte.invariant
 

@@ -3,11 +3,11 @@ use Rattle.memory.specs.Boards.{bank_memory}
 use Rattle.pagemap.proofs.Asked.{fits, granted}
 use Rattle.pagemap.proofs.listing.listing.Goals as goal
 
-pub returns-in-Ok-map-text : goal.returns-in-Ok-map-text
-returns-in-Ok-map-text c =
+pub returns-in-Ok-map_text : goal.returns-in-Ok-map_text
+returns-in-Ok-map_text c =
     let image = c.args.image.now in
     let size = fits (length image) c.in-Ok.size.bytes c.in-Ok.ensures.answer in
     record {
-      answer = granted (map string_bytes c.args.arguments.now) image (string_bytes c.in-Ok-map-text.text) c.in-Ok-window.window (bank_memory c.new-bank.result) size.0 c.in-Ok-window.ensures (c.new-bank.ensures.whole (omega (arith, size.1))) c.in-Ok-map-text.ensures;
+      answer = granted (map string_bytes c.args.arguments.now) image (string_bytes c.in-Ok-map_text.text) c.in-Ok-window.window (bank_memory c.new-bank.result) size.0 c.in-Ok-window.ensures (c.new-bank.ensures.whole (omega (arith, size.1))) c.in-Ok-map_text.ensures;
       same = search rules;
     }

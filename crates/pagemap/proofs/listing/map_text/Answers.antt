@@ -8,4 +8,4 @@ pub returns : goal.returns
 returns g c =
     five (head_text c.args.bytes c.args.window) (pages_text (g.M.Memory.memory c.args.memory.now) c.args.bytes c.args.window 16) (codes "opens on") (opened_text c.args.window 128) (10 ∷ [])
     _ _ _ _ _ _
-    c.new-text.ensures.bytes c.in-ok-write.ensures.bytes c.in-ok-pages.ensures c.in-ok-write-2.ensures.bytes c.in-ok-opened.ensures c.in-ok-writeln.ensures.bytes
+    c.new-text.ensures.bytes c.in_ok-write.ensures.bytes c.in_ok-pages.ensures c.in_ok-write-2.ensures.bytes c.in_ok-opened.ensures c.in_ok-writeln.ensures.bytes

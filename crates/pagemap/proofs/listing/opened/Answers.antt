@@ -5,4 +5,4 @@ pub loop-page-init : goal.loop-page-init
 loop-page-init c = none_opened _ _
 
 pub loop-page-preserved : goal.loop-page-preserved
-loop-page-preserved c = opened_more c.args.window c.loop-page.page _ _ _ c.loop-page.invariant c.in-ok-opened-page.ensures
+loop-page-preserved c = opened_more c.args.window c.loop-page.page _ _ _ c.loop-page.invariant c.in_ok-opened_page.ensures

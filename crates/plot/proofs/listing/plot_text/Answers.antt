@@ -12,4 +12,4 @@ returns c =
     let chains = track_text (chain_state c.args.panel.now) in
     two_and_three (run_line (ran_of c.args.ran)) (register_line c.args.cpu c.args.window) (chains Pen) (chains X) (chains Y)
     (string_bytes c.new-text.result) (string_bytes c.writeln.new.self) (string_bytes c.records.new.text) (string_bytes c.records-2.new.text) (string_bytes c.records-3.new.text)
-    c.new-text.ensures.bytes c.in-ok-writeln.ensures.bytes c.in-ok-records.ensures c.in-ok-records-2.ensures c.in-ok-records-3.ensures
+    c.new-text.ensures.bytes c.in_ok-writeln.ensures.bytes c.in_ok-records.ensures c.in_ok-records-2.ensures c.in_ok-records-3.ensures

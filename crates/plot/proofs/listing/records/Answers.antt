@@ -7,9 +7,9 @@ use Rattle.plot.proofs.listing.records.Goals as goal
 
 pub loop-number-preserved : goal.loop-number-preserved
 loop-number-preserved c =
-    record_more c.args.track _ _ _ (c.in-Some.number, c.in-Some.record) _ _ c.loop-number.invariant c.in-Some.ensures.steps c.in-ok-writeln.ensures.bytes
+    record_more c.args.track _ _ _ (c.in-Some.number, c.in-Some.record) _ _ c.loop-number.invariant c.in-Some.ensures.steps c.in_ok-writeln.ensures.bytes
 
 pub returns : goal.returns
 returns c =
     records_done c.args.track _ _ _ c.loop-number.invariant c.in-None.ensures.steps
-    ∙ ap (λ (met : List (ℕ × Record)). string_bytes c.args.text.now ++ lines_of c.args.track met) (ap left_to_walk c.into-iter-number-iterator.ensures.into-iter-gives ∙ c.walk-number-items.ensures)
+    ∙ ap (λ (met : List (ℕ × Record)). string_bytes c.args.text.now ++ lines_of c.args.track met) (ap left_to_walk c.into_iter-number-iterator.ensures.into_iter-gives ∙ c.walk-number-items.ensures)

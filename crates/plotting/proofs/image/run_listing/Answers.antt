@@ -20,7 +20,7 @@ returns g c =
     let calls : ℕ → List log.Call = λ k. map call_of (take k (call.Run c.args.states ∷ [])) in
     let one : calls served ≡ log.running c.args.states ∷ [] = ap calls (c.replay-replayed.ensures.whole complete) in
     let alone : map answer_of answers ≡ log.ran (Ok (ran_of c.in-Some.ran)) ∷ [] =
-    ap (λ (xs : List Answer). map answer_of xs) (sym c.as-slice.ensures.value) ∙ c.in-Some.ensures in
+    ap (λ (xs : List Answer). map answer_of xs) (sym c.as_slice.ensures.value) ∙ c.in-Some.ensures in
     let text =
     listed c.args.states (memory c.args.memory) (chain_state c.args.panel) (map answer_of answers) (model memory chain_state card) (ran_of c.in-Some.ran) (calls served) c.requires one c.replay-replayed.ensures.replayed alone in
     let P : List ℕ → Type 0 = Lists c.listing.result in

@@ -12,4 +12,4 @@ use Rattle.transfers.proofs.port.output_block.Goals as goal
 pub returns : goal.returns
 returns g c =
     c.send.ensures
-    ∙ ap (λ (y : Played Got _). play {n = 0} g.P.Panel.make (began c.args.m.now) (output (bc y.value.then.cpu) y.value.value y.value.then (λ q. tree.done (on_cpu (counted_down port c.args.way y.value.value) q))) y.world) c.from-hl-byte.ensures
+    ∙ ap (λ (y : Played Got _). play {n = 0} g.P.Panel.make (began c.args.m.now) (output (bc y.value.then.cpu) y.value.value y.value.then (λ q. tree.done (on_cpu (counted_down port c.args.way y.value.value) q))) y.world) c.from_hl-byte.ensures

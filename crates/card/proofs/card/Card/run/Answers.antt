@@ -21,6 +21,6 @@ returns g c =
     let m = model g.M.Memory.memory g.P.Panel.state c.args.self.now in
     let on : true ≡ is_budget c.args.budget = grind (arith, nat_tests) in
     record {
-      run = c.run-on.ensures ∙ ap (λ (b : Bool). cond b (came_to (run g.P.Panel.make c.args.budget m)) (record { answer = Err (numbered 6); card = m })) on;
+      run = c.run_on.ensures ∙ ap (λ (b : Bool). cond b (came_to (run g.P.Panel.make c.args.budget m)) (record { answer = Err (numbered 6); card = m })) on;
       few = run_few g.P.Panel.make c.args.budget c.args.budget 0 no_time m;
     }

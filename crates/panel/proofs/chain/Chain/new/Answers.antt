@@ -5,8 +5,8 @@ use Rattle.panel.proofs.Tables.{empty, sound_empty}
 use Rattle.panel.proofs.Joining.{same_state}
 use Rattle.panel.proofs.chain.Chain.new.Goals as goal
 
-pub invariant-of-result : goal.invariant-of-result
-invariant-of-result c = sound_empty (vec_items c.args.table) (omega arith, omega arith)
+pub invariant_of-result : goal.invariant_of-result
+invariant_of-result c = sound_empty (vec_items c.args.table) (omega arith, omega arith)
 
 pub returns : goal.returns
 returns c =

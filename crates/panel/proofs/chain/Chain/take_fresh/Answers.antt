@@ -4,8 +4,8 @@ use Rattle.panel.specs.Shown.{table_of}
 use Rattle.panel.proofs.Joining.{number_is, sound_filled, state_filled}
 use Rattle.panel.proofs.chain.Chain.take_fresh.Goals as goal
 
-pub invariant-of-self : goal.invariant-of-self
-invariant-of-self c = sound_filled c.args.self.now (ending c.args.port c.args.byte)
+pub invariant_of-self : goal.invariant_of-self
+invariant_of-self c = sound_filled c.args.self.now (ending c.args.port c.args.byte)
 
 pub returns : goal.returns
 returns c =

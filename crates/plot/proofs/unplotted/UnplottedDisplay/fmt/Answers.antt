@@ -5,4 +5,4 @@ use Rattle.plot.proofs.unplotted.UnplottedDisplay.fmt.Goals as goal
 
 pub returns-in-NoMemory-clause-writes : goal.returns-in-NoMemory-clause-writes
 returns-in-NoMemory-clause-writes g c plain ok =
-    subst (λ u. HasWritten g.W.Write.write_str_gives c.args.f.now (unplotted_line u) c.write-str-in-NoMemory.new.self) (sym c.in-NoMemory.is) (c.write-str-in-NoMemory.ensures.writes plain ok)
+    subst (λ u. HasWritten g.W.Write.write_str_gives c.args.f.now (unplotted_line u) c.write_str-in-NoMemory.new.self) (sym c.in-NoMemory.is) (c.write_str-in-NoMemory.ensures.writes plain ok)

@@ -7,12 +7,12 @@ use Rattle.plugs.proofs.table.Table.put.Goals.{After-place-at}
 
 -- the place that was looked up is that of the entry's key among the entries held
 looked_up : (g : given.Over) (c : After-place-at g) → c.place-at.result ≡ place_of g.E.Entry.key (held c.args.self.now) (g.E.Entry.key c.args.entry)
-looked_up g c = c.place-at.ensures ∙ (λ i. place_of g.E.Entry.key (c.in-use.ensures.value i) (c.key.ensures i))
+looked_up g c = c.place-at.ensures ∙ (λ i. place_of g.E.Entry.key (c.in_use.ensures.value i) (c.key.ensures i))
 
 pub returns-then-at-ge-PLACES : goal.returns-then-at-ge-PLACES
 returns-then-at-ge-PLACES g c =
     let self = c.args.self.now in
-    (refl, too_many g.E.Entry.key (held self) (held self) c.place-at.result c.args.entry refl (looked_up g (goal.at.returns-then-at-ge-PLACES g c).After-place-at) c.if-at-ge-PLACES.true (omega (arith, ap length c.in-use.ensures.value, c.in-use.ensures.few)))
+    (refl, too_many g.E.Entry.key (held self) (held self) c.place-at.result c.args.entry refl (looked_up g (goal.at.returns-then-at-ge-PLACES g c).After-place-at) c.if-at-ge-PLACES.true (omega (arith, ap length c.in_use.ensures.value, c.in_use.ensures.few)))
 
 pub returns-then-at-self : goal.returns-then-at-self
 returns-then-at-self g c =

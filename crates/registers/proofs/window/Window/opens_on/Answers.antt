@@ -5,12 +5,12 @@ use Rattle.registers.proofs.window.Window.opens_on.Goals as goal
 
 pub loop-logical-preserved : goal.loop-logical-preserved
 loop-logical-preserved c =
-    among_none c.args.self c.loop-logical.logical c.args.page c.loop-logical.invariant (ne_eqb _ _ (λ e. c.if-shown-page-page.false (c.shown_page.ensures.value ∙ e)))
+    among_none c.args.self c.loop-logical.logical c.args.page c.loop-logical.invariant (ne_eqb _ _ (λ e. c.if-shown_page-page.false (c.shown_page.ensures.value ∙ e)))
 
-pub returns-then-shown-page-page : goal.returns-then-shown-page-page
+pub returns-then-shown_page-page : goal.returns-then-shown_page-page
 unfolding opens_on
-returns-then-shown-page-page c =
-    sym (among_some c.args.self 16 c.loop-logical.logical c.args.page c.loop-logical-test.true (sym c.shown_page.ensures.value ∙ c.if-shown-page-page.true))
+returns-then-shown_page-page c =
+    sym (among_some c.args.self 16 c.loop-logical.logical c.args.page c.loop-logical-test.true (sym c.shown_page.ensures.value ∙ c.if-shown_page-page.true))
 
 pub returns : goal.returns
 unfolding opens_on

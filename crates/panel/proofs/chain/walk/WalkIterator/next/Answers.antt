@@ -3,10 +3,10 @@ use Rattle.panel.specs.Shown.{chain_state}
 use Rattle.panel.proofs.Walks.{walked_on, walked_end}
 use Rattle.panel.proofs.chain.walk.WalkIterator.next.Goals as goal
 
-pub returns-in-default : goal.returns-in-default
-returns-in-default c =
+pub returns-in_default : goal.returns-in_default
+returns-in_default c =
     let self = c.args.self.now in
-    record { steps = walked_end (chain_state self.panel.now) self.most self.number c.in-default.ensures; goes = search rules }
+    record { steps = walked_end (chain_state self.panel.now) self.most self.number c.in_default.ensures; goes = search rules }
 
 pub returns : goal.returns
 returns c =
