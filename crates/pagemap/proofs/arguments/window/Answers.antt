@@ -22,8 +22,8 @@ returns-in_default c =
     let other-than : length c.args.arguments.now ≡ 3 → ⊥ = search rules in
     other string_bytes c.args.arguments.now some other-than
 
-pub returns-in_default·2 : goal.returns-in_default·2
-returns-in_default·2 c =
+pub returns-in_default-2 : goal.returns-in_default-2
+returns-in_default-2 c =
     let some : length c.args.arguments.now ≡ 0 → ⊥ = search rules in
     let other-than : length c.args.arguments.now ≡ 3 → ⊥ = search rules in
     other string_bytes c.args.arguments.now some other-than

@@ -10,9 +10,9 @@ loop-bit-init c = ap (bit_xor c.args.crc) c.from.ensures
 pub loop-bit-preserved : goal.loop-bit-preserved
 unfolding crc_bits
 loop-bit-preserved c =
-    c.after_bit-after.ensures ∙ ap crc_bit c.loop-bit.invariant ∙ ap (λ k. crc_bits k (bit_xor c.args.crc c.args.byte)) (sym (add-one c.loop-bit.-bit))
+    c.after_bit-after.ensures ∙ ap crc_bit c.loop-bit.invariant ∙ ap (λ k. crc_bits k (bit_xor c.args.crc c.args.byte)) (sym (add-one c.loop-bit._bit))
 
 pub returns : goal.returns
 returns c =
-    let all : c.loop-bit.-bit ≡ 8 = omega arith in
+    let all : c.loop-bit._bit ≡ 8 = omega arith in
     c.loop-bit.invariant ∙ ap (λ k. crc_bits k (bit_xor c.args.crc c.args.byte)) all

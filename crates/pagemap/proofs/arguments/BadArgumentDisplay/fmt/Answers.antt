@@ -9,8 +9,8 @@ returns-in-NotThree-clause-writes g c plain ok =
 
 pub returns-in-NotAByte-clause-writes : goal.returns-in-NotAByte-clause-writes
 returns-in-NotAByte-clause-writes g c plain ok =
-    subst (λ b. HasWritten g.W.Write.write_str_gives c.args.f.now (bad_argument_line b) c.write.new.self) (sym c.in-NotAByte.is) (c.write.ensures.shows plain ok)
+    subst (λ b. HasWritten g.W.Write.write_str_gives c.args.f.now (bad_argument_line b) c.write.new.self) (sym c.in-NotAByte.is) (c.write.ensures.writes plain ok)
 
 pub returns-in-AboveBase-clause-writes : goal.returns-in-AboveBase-clause-writes
 returns-in-AboveBase-clause-writes g c plain ok =
-    subst (λ b. HasWritten g.W.Write.write_str_gives c.args.f.now (bad_argument_line b) c.write-in-AboveBase.new.self) (sym c.in-AboveBase.is) (c.write-in-AboveBase.ensures.shows plain ok)
+    subst (λ b. HasWritten g.W.Write.write_str_gives c.args.f.now (bad_argument_line b) c.write-in-AboveBase.new.self) (sym c.in-AboveBase.is) (c.write-in-AboveBase.ensures.writes plain ok)

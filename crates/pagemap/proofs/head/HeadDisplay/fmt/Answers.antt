@@ -4,4 +4,4 @@ use Rattle.pagemap.proofs.head.HeadDisplay.fmt.Goals as goal
 
 pub returns-clause-writes : goal.returns-clause-writes
 unfolding head_text
-returns-clause-writes g c plain ok = c.write.ensures.shows plain ok
+returns-clause-writes g c plain ok = c.write.ensures.writes plain ok
