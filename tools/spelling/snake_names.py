@@ -31,7 +31,7 @@ def files(root):
 def code(path, text):
     """The pieces of a file in turn: (whether it is code, text). Comments and strings are not code."""
     if path.endswith(".antt"):
-        at = re.compile(r"(?:(?<=\s)|^)--(?=\s|$)[^\n]*", re.M)
+        at = re.compile(r"(?:(?<=\s)|^)--(?=\s|$)[^\n]*|\"(?:\\.|[^\"\\\n])*\"", re.M)
     elif path.endswith(".rt"):
         at = re.compile(r"//[^\n]*|b?\"(?:\\.|[^\"\\])*\"|b?'(?:\\.|[^'\\])'")
     else:
@@ -54,6 +54,7 @@ OTHERWISE = {
     "byte-through": "byte_seen_through",
     "plot-text": "text_of_plot",
     "again-zero": "again_at_zero",
+    "exchange-top": "top_exchanged",
 }
 
 

@@ -1,7 +1,7 @@
 // The stack, and exchanges, behind their opcode bytes.
 ghost use Rattle.instructions.specs.declared.group.exchange.Exchange.TheVariants as form;
 ghost use Rattle.machine.specs.Machines.{Below, Ends, Gives, got};
-ghost use Rattle.processor.specs.Exchange.{exchange_top, exchanges};
+ghost use Rattle.processor.specs.Exchange.{top_exchanged, exchanges};
 
 use instructions::group::exchange::Exchange;
 use machine::state::Machine;
@@ -120,7 +120,7 @@ fn alternates<M: Memory, P: Panel>(m: &mut Machine<M, P>)
 // The word on top of the stack, and another in its place: its high byte is written first.
 fn exchange_top<M: Memory, P: Panel>(m: &mut Machine<M, P>, value: u16) -> u16
     requires { Below 600 m.old }
-    ensures { Gives {n = 2} make memory state (λ p. exchange_top value p (λ old. got old p)) m.old result m.new }
+    ensures { Gives {n = 2} make memory state (λ p. top_exchanged value p (λ old. got old p)) m.old result m.new }
 {
     let [low, high] = value.to_le_bytes();
     let sp = m.cpu.sp;

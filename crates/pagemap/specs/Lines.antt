@@ -28,7 +28,7 @@ line text = text ++ (10 ∷ [])
 -- Before the pages: the image's length, the window, the columns' names.
 unfoldable pub head_text : ℕ → Window → List ℕ
 head_text bytes w =
-    codes "image   " ++ (decimal bytes ++ (codes " bytes\nwindow  CBAR " ++ (hex_byte w.cbar ++ (codes "  CBR " ++ (hex_byte w.cbr ++ (codes "  BBR " ++ (hex_byte w.bbr ++ codes "\npage  area           shows  address  bytes  crc_32\n")))))))
+    codes "image   " ++ (decimal bytes ++ (codes " bytes\nwindow  CBAR " ++ (hex_byte w.cbar ++ (codes "  CBR " ++ (hex_byte w.cbr ++ (codes "  BBR " ++ (hex_byte w.bbr ++ codes "\npage  area           shows  address  bytes  crc-32\n")))))))
 
 -- An area's name, in a column of thirteen.
 abbrev pub area_name : Area → List ℕ
