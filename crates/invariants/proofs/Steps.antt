@@ -13,7 +13,7 @@ use Rattle.beginning.specs.Beginning.{beginning}
 use Rattle.cycles.specs.Play.{Began, Tally, World, no_time, world}
 use Rattle.processor.specs.Instruction.{executed}
 use Rattle.processor.specs.Interrupt as interrupt
-use Rattle.processor.specs.Step.{Faulted, Model, began, cycles_of, step}
+use Rattle.processor.specs.Step.{Faulted, Model, began, cycles_of}
 use Rattle.processor.proofs.Steps.{bad_byte, by_tests}
 use Rattle.invariants.specs.Executing.{executed_by, executing}
 use Rattle.invariants.specs.Fetches.{FetchesInOrder, bytes_in}
