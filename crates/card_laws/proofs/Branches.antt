@@ -8,7 +8,7 @@ use Rattle.panel.specs.Panel.{Make}
 use Rattle.registers.specs.Operands.{holds}
 use Rattle.registers.specs.Ports.{on_cpu}
 use Rattle.registers.specs.Registers.{Processor, with_b, with_f}
-use Rattle.cycles.specs.Play.{Began, Tally, play, world}
+use Rattle.cycles.specs.Play.{Began, Tally, play}
 use Rattle.processor.specs.Jump.{relative}
 use Rattle.processor.specs.Parts.{finish}
 use Rattle.processor.specs.Step.{Model, began}
