@@ -1,5 +1,5 @@
 -- Test, set and reset of one bit. Assumes nothing.
-use Rattle.std.specs.Prelude.{Bool, true, false, not, ℕ, ◌-◌, ◌/◌, ◌%◌, ◌^◌, eqb}
+use Rattle.std.specs.Prelude.{true, false, ℕ, ◌-◌, ◌/◌, ◌%◌, ◌^◌, eqb}
 use Rattle.std.specs.Int.Bits.{bit_and, bit_or}
 use Rattle.arithmetic.specs.Flags.{row}
 use Rattle.arithmetic.specs.declared.flags.Flags.{Flags}

@@ -1,5 +1,5 @@
 -- The flags of the block instructions. Assumes nothing.
-use Rattle.std.specs.Prelude.{Bool, true, false, not, ℕ, ◌%◌}
+use Rattle.std.specs.Prelude.{true, false, not, ℕ, ◌%◌}
 use Rattle.arithmetic.specs.Add.{borrows, difference}
 use Rattle.arithmetic.specs.Flags.{even_parity, negative, row, zero}
 use Rattle.arithmetic.specs.declared.flags.Flags.{Flags}

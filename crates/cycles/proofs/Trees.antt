@@ -1,5 +1,5 @@
 -- Isolation, once over trees of machine cycles. Assumes nothing.
-use Rattle.std.proofs.Common.{◌≡◌, ℕ, zero, suc, ◌<◌, Bool, true, false, ◌≢◌, sym, refl, ap, ◌∙◌, subst, suc-le-suc, zero-le, arith, lt-ltb}
+use Rattle.std.proofs.Common.{◌≡◌, ℕ, zero, suc, ◌<◌, Bool, true, sym, refl, ap, ◌∙◌, subst, suc-le-suc, zero-le, arith, lt-ltb}
 use borrow.Author.Tests.{both_ways}
 use Rattle.std.proofs.lemmas.Bool.{and_from}
 use Rattle.memory.specs.Memory.{Agree, Mem, store}
@@ -9,7 +9,7 @@ use Rattle.registers.specs.declared.window.Window.{Window}
 use Rattle.registers.specs.Window.{OpensOn, page_of, physical_of}
 use Rattle.registers.proofs.Opened as opened
 use Rattle.cycles.specs.Tree.{Cycles, Cycles.done, Cycles.fetch, Cycles.read, Cycles.write, Cycles.input, Cycles.output, Cycles.acknowledge, Cycles.internal}
-use Rattle.cycles.specs.Play.{Began, Played, World, access, acknowledging, answer_of, asked, byte_at, play, sent, stored, waited}
+use Rattle.cycles.specs.Play.{Began, World, access, acknowledging, answer_of, asked, byte_at, play, sent, stored, waited}
 use Rattle.cycles.specs.Footprint.{Few, Kept, OpensWithin, Same, TouchesOnly, TreeLaws, on_pages, with_memory}
 
 pub kept_none : (set : ℕ → Bool) (m : Mem) → Kept set m m

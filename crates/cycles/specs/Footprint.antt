@@ -1,6 +1,6 @@
 -- Which addresses a play touches, and that nothing else matters to it. Assumes nothing.
 use Rattle.std.specs.Prelude.{◌≡◌, ℕ, ◌<◌, Bool, true, false, ◌&&◌, ◌≢◌}
-use Rattle.memory.specs.Memory.{Agree, Mem, is_address, store}
+use Rattle.memory.specs.Memory.{Agree, Mem, is_address}
 use Rattle.panel.specs.Panel.{Make}
 use Rattle.registers.specs.declared.window.Window.{Window}
 use Rattle.registers.specs.Window.{OpensOn, page_of, physical_of, shown_page}

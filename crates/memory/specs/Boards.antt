@@ -1,5 +1,5 @@
 -- The two bottom ends: what memory a lent run of bytes makes. Assumes nothing.
-use Rattle.std.specs.Prelude.{ℕ, ◌+◌, ◌-◌, Bool, false, cond, ◌&&◌, List, length, Ok, Err, Result, nat_le, nat_lt, slice_index, slice_set}
+use Rattle.std.specs.Prelude.{ℕ, ◌-◌, false, cond, ◌&&◌, List, length, Ok, Err, Result, nat_le, nat_lt, slice_index, slice_set}
 use Rattle.denial.specs.Denials.{Told, numbered}
 use Rattle.memory.specs.Memory.{Mem, is_address}
 use Rattle.memory.specs.declared.length.BoardLength.{BoardLength}

@@ -1,8 +1,8 @@
 -- What a list of arguments asks for, by its length. Assumes nothing.
-use Rattle.std.proofs.Common.{◌≡◌, ℕ, suc, ◌<◌, Bool, true, false, cond, leb, List, [], ◌∷◌, map, length, get_or, Ok, Err, codes, sym, refl, ap, ◌∙◌, arith}
+use Rattle.std.proofs.Common.{◌≡◌, ℕ, ◌<◌, Bool, true, false, cond, leb, List, [], ◌∷◌, map, length, get_or, Ok, Err, codes, sym, refl, ap, ◌∙◌, arith}
 use Rattle.pagemap.specs.declared.arguments.Place.TheVariants.{Cbar, Cbr, Bbr}
 use Rattle.pagemap.specs.declared.arguments.BadArgument.TheVariants.{NotThree}
-use Rattle.denial.specs.Denials.{Told, numbered}
+use Rattle.denial.specs.Denials.{numbered}
 use Rattle.memory.specs.Memory.{Mem}
 use Rattle.memory.specs.Boards.{bank, board_length}
 use Rattle.registers.specs.declared.window.Window.{Window}

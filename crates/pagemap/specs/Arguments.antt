@@ -1,5 +1,5 @@
 -- The window that the program's arguments ask for. Assumes nothing.
-use Rattle.std.specs.Prelude.{ℕ, cond, List, [], ◌∷◌, ◌++◌, Some, None, Ok, Err, codes, Option, Result, nat_lt}
+use Rattle.std.specs.Prelude.{ℕ, cond, List, [], ◌∷◌, ◌++◌, Some, None, Ok, Err, codes, Result, nat_lt}
 use Rattle.text.specs.Hexadecimal.{byte_value}
 use Rattle.registers.specs.declared.window.Window.{Window}
 use Rattle.pagemap.specs.declared.arguments.Place.{Place}

@@ -1,5 +1,5 @@
 -- The whole listing of an image under a window, and what is printed in its place where it is refused. Assumes nothing.
-use Rattle.std.specs.Prelude.{◌≡◌, ℕ, zero, suc, cond, List, [], ◌∷◌, ◌++◌, length, Ok, Err, string_bytes, codes, Result, String, nat_le}
+use Rattle.std.specs.Prelude.{◌≡◌, ℕ, zero, suc, cond, List, [], ◌++◌, length, Ok, Err, string_bytes, codes, Result, String, nat_le}
 use Rattle.memory.specs.Memory.{Mem}
 use Rattle.memory.specs.Boards.{bank}
 use Rattle.registers.specs.declared.window.Window.{Window}

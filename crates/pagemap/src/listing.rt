@@ -15,7 +15,12 @@ use std::alloc::{AllocError, Global};
 use text::hex::HexByte;
 
 // A line for each of the sixteen logical pages.
-fn pages<M: Memory>(text: &mut String, memory: &M, bytes: usize, window: Window) -> Result<(), AllocError>
+fn pages<M: Memory>(
+    text: &mut String,
+    memory: &M,
+    bytes: usize,
+    window: Window,
+) -> Result<(), AllocError>
     ensures { OnOk result (string_bytes text.new ≡ string_bytes text.old ++ pages_text (M.Memory.memory memory.now) bytes window 16) }
 {
     for page in 0..16u8 {

@@ -145,7 +145,7 @@ Sound t fs ls u = record {
   room : u < length t;
   total : used (chains_in t fs) ≡ u;
   ends : Ends (chains_in t fs) ls;
-  once : Once (chains_in t fs) u
+  once : Once (chains_in t fs) u;
 }
 
 -- they hold if the chains are c, and c is in order

@@ -1,12 +1,12 @@
 -- What denied calls leave. Assumes nothing.
-use Rattle.std.proofs.Common.{◌≡◌, ℕ, Bool, true, false, cond, [], Ok, Err, Result, sym, refl, ap, ◌∙◌, arith}
+use Rattle.std.proofs.Common.{◌≡◌, ℕ, Bool, true, false, cond, [], Ok, Err, Result, sym, refl, ap, arith}
 use Rattle.denial.specs.Denials.{numbered}
 use Rattle.panel.specs.Panel.{Make}
 use Rattle.cycles.specs.Play.{Tally}
 use Rattle.processor.specs.Denials.{DenialLaws}
 use Rattle.processor.specs.Log.{Answer.ran, after_run, line}
-use Rattle.processor.specs.Run.{is_budget, run}
-use Rattle.processor.specs.Step.{Faulted, Model, denied, taken}
+use Rattle.processor.specs.Run.{run}
+use Rattle.processor.specs.Step.{Faulted, Model}
 use Rattle.processor.proofs.Steps.{bad_byte, by_tests}
 
 never : (cost : Tally) (why : Faulted) → Ok cost ≡ Err why → ⊥

@@ -1,5 +1,5 @@
 -- Isolation of runs and of logs. Assumes nothing.
-use Rattle.std.proofs.Common.{◌≡◌, ℕ, zero, suc, ◌+◌, ◌%◌, Bool, true, false, cond, leb, List, [], ◌∷◌, ◌++◌, map, take, Some, None, Ok, Err, Option, Result, sym, refl, ap, ◌∙◌, subst, ap₂}
+use Rattle.std.proofs.Common.{◌≡◌, ℕ, zero, suc, ◌+◌, ◌%◌, Bool, true, false, cond, leb, List, [], ◌∷◌, ◌++◌, map, take, Some, None, Ok, Err, Option, Result, refl, ap, subst, ap₂}
 use Rattle.std.specs.List.{range_with_len}
 use Rattle.denial.specs.Denials.{numbered}
 use Rattle.memory.specs.Memory.{Agree, Mem}
@@ -10,8 +10,8 @@ use Rattle.cycles.specs.Footprint.{Kept, OpensWithin, on_pages}
 use Rattle.cycles.specs.Play.{Tally, no_time}
 use Rattle.cycles.proofs.Trees as trees
 use Rattle.processor.specs.Isolation.{ChangesFew, Each, Isolated, Isolation, LookWithin, StaysWithin, StepWithin}
-use Rattle.processor.specs.Log.{Answer.ran, Answer.saw, Answer.stepped, Answer.was_reset, Call, Call.looking, Call.resetting, Call.running, Call.stepping, Line, Replayed, after_run, line, made, replay, replay_from, serve}
-use Rattle.processor.specs.Run.{Finished, Stop, Stop.fault, Stop.halted, Stop.spent, Stepped, after_answer, finished, goes_on, is_budget, is_look, looked, rests, run, run_on, sum_of}
+use Rattle.processor.specs.Log.{Answer.ran, Answer.saw, Answer.stepped, Call, Call.looking, Call.resetting, Call.running, Call.stepping, Line, after_run, line, made, replay_from, serve}
+use Rattle.processor.specs.Run.{Finished, Stop, Stop.fault, Stop.halted, Stop.spent, after_answer, finished, goes_on, is_budget, is_look, looked, rests, run, run_on, sum_of}
 use Rattle.processor.specs.Seclusion.{Alike}
 use Rattle.processor.specs.Step.{Faulted, Model, step}
 use Rattle.processor.proofs.Steps as steps

@@ -1,9 +1,9 @@
 -- Seclusion of a step, from that of trees. Assumes nothing.
-use Rattle.std.proofs.Common.{◌≡◌, ℕ, Bool, true, false, cond, Ok, refl, ap, ap₂, subst₂}
+use Rattle.std.proofs.Common.{ℕ, Bool, true, false, cond, Ok, refl, ap, ap₂, subst₂}
 use Rattle.memory.specs.Memory.{Agree, Mem}
 use Rattle.panel.specs.Panel.{Make}
 use Rattle.registers.specs.Registers.{Processor}
-use Rattle.cycles.specs.Footprint.{Few, Kept, OpensWithin, on_pages}
+use Rattle.cycles.specs.Footprint.{Few, OpensWithin, on_pages}
 use Rattle.cycles.specs.Play.{no_time, world}
 use Rattle.cycles.proofs.Trees as trees
 use Rattle.processor.specs.Interrupt.{accepted}

@@ -1,5 +1,5 @@
 -- The processor itself: nothing, decimal adjust, the carry, halting and sleeping, interrupts. Assumes nothing.
-use Rattle.std.specs.Prelude.{ℕ, true, false}
+use Rattle.std.specs.Prelude.{true, false}
 use Rattle.arithmetic.specs.Carry as carry
 use Rattle.arithmetic.specs.Decimal.{adjust}
 use Rattle.registers.specs.declared.operand.Register.TheVariants as register

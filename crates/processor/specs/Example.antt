@@ -6,7 +6,7 @@ use Rattle.memory.specs.Memory.{Mem, is_address}
 use Rattle.panel.specs.Script.{State, new_script, script_make}
 use Rattle.registers.specs.Registers.{fresh_window}
 use Rattle.processor.specs.Isolation.{StaysWithin}
-use Rattle.processor.specs.Log.{Answer, Answer.ran, Call, Call.looking, Call.resetting, Call.running, Call.stepping, made, serve}
+use Rattle.processor.specs.Log.{Answer.ran, Call, Call.looking, Call.resetting, Call.running, Call.stepping, made, serve}
 use Rattle.processor.specs.Run.{Stop.halted}
 use Rattle.processor.specs.Step.{Model}
 

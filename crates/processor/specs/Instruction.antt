@@ -20,7 +20,7 @@ use Rattle.cycles.specs.Tree.{Cycles}
 use Rattle.processor.specs.Arithmetic.{calculates}
 use Rattle.processor.specs.Bit.{bits_of}
 use Rattle.processor.specs.Block.{blocks}
-use Rattle.processor.specs.Call.{calls, enter}
+use Rattle.processor.specs.Call.{calls}
 use Rattle.processor.specs.Control.{controls}
 use Rattle.processor.specs.Exchange.{exchanges}
 use Rattle.processor.specs.Jump.{jumps}

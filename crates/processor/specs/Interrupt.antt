@@ -1,5 +1,5 @@
 -- Interrupts: which line is accepted, and how it is served. Assumes nothing.
-use Rattle.std.specs.Prelude.{ℕ, ◌+◌, ◌*◌, ◌/◌, ◌%◌, Bool, true, false, cond, not, ◌&&◌, is_some, Some, None, Option, ◌==◌}
+use Rattle.std.specs.Prelude.{ℕ, ◌+◌, ◌*◌, ◌/◌, ◌%◌, Bool, false, cond, not, ◌&&◌, is_some, Some, None, Option, ◌==◌}
 use Rattle.arithmetic.specs.Flags.{has, odd}
 use Rattle.panel.specs.declared.line.Line.{Line}
 use Rattle.panel.specs.declared.line.Line.TheVariants.{Int0, Int1, Int2, Nmi}
@@ -10,7 +10,7 @@ use Rattle.registers.specs.declared.registers.Mode.{Mode}
 use Rattle.registers.specs.declared.registers.Mode.TheVariants.{Asleep, Halted, Running}
 use Rattle.registers.specs.declared.registers.Registers.{Registers}
 use Rattle.registers.specs.Ports.{on_cpu}
-use Rattle.registers.specs.Registers.{Processor, up, with_ief1, with_ief2, with_mode, with_pc, word}
+use Rattle.registers.specs.Registers.{Processor, up, with_ief1, with_ief2, with_mode, with_pc}
 use Rattle.cycles.specs.Tree.{Cycles, Cycles.acknowledge, Cycles.done, Cycles.internal}
 use Rattle.processor.specs.Call.{enter}
 use Rattle.processor.specs.Instruction.{executed}

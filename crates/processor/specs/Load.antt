@@ -1,5 +1,4 @@
 -- Loads. The cycles of the opcode bytes are behind; the rest follows in the data book's order. Assumes nothing.
-use Rattle.std.specs.Prelude.{ℕ, ◌/◌, ◌%◌}
 use Rattle.arithmetic.specs.Port.{load}
 use Rattle.registers.specs.declared.operand.Register.TheVariants as register
 use Rattle.registers.specs.Operands.{hl, index_of, pair_of, pointer_of, value_of, with_hl, with_index, with_pair, with_register}

@@ -7,7 +7,7 @@ use Rattle.registers.specs.declared.window.Window.{Window}
 use Rattle.registers.specs.Registers.{fresh_processor}
 use Rattle.cycles.specs.Play.{Tally}
 use Rattle.processor.specs.Run.{Finished, Ran, Stepped, is_budget, is_look, looked, reset, run}
-use Rattle.processor.specs.Step.{Faulted, Model, Turn, step}
+use Rattle.processor.specs.Step.{Faulted, Model, step}
 
 -- The calls that a log knows: a step, a run with its budget, reset, a look with its window, address and length.
 pub data Call : Type 0 where

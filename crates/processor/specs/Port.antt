@@ -9,7 +9,7 @@ use Rattle.registers.specs.declared.operand.Register.TheVariants as register
 use Rattle.registers.specs.declared.registers.Registers.{Registers}
 use Rattle.registers.specs.Operands.{along, bc, hl, value_of, with_hl}
 use Rattle.registers.specs.Ports.{on_cpu}
-use Rattle.registers.specs.Registers.{Processor, down, with_a, with_b, with_c, with_f, with_pc, word}
+use Rattle.registers.specs.Registers.{Processor, down, with_a, with_c, with_f, with_pc, word}
 use Rattle.arithmetic.specs.Add.{difference, sum}
 use Rattle.instructions.specs.declared.group.port.Port.{Port}
 use Rattle.instructions.specs.declared.group.port.Port.TheVariants as port_of

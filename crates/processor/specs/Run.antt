@@ -1,7 +1,6 @@
 -- A run of steps, reset, and a look. Assumes nothing.
-use Rattle.std.specs.Prelude.{◌≡◌, ℕ, zero, suc, ◌+◌, ◌%◌, Bool, true, false, cond, ◌&&◌, List, [], ◌∷◌, map, Some, None, Ok, Err, Option, Result, nat_le, nat_lt}
+use Rattle.std.specs.Prelude.{ℕ, zero, suc, ◌+◌, ◌%◌, Bool, true, false, cond, ◌&&◌, List, [], ◌∷◌, map, Some, None, Ok, Err, Option, Result, nat_le, nat_lt}
 use Rattle.std.specs.List.{range_with_len}
-use Rattle.denial.specs.Denials.{Told, numbered}
 use Rattle.panel.specs.Panel.{Make}
 use Rattle.registers.specs.declared.registers.Mode.{Mode}
 use Rattle.registers.specs.declared.registers.Mode.TheVariants.{Asleep, Halted, Running}

@@ -9,7 +9,7 @@ use Rattle.registers.specs.declared.registers.InterruptMode.{InterruptMode}
 use Rattle.registers.specs.declared.registers.InterruptMode.TheVariants.{One, Two, Zero}
 use Rattle.registers.specs.Ports.{on_cpu}
 use Rattle.registers.specs.Registers.{Processor, with_ei}
-use Rattle.cycles.specs.Play.{Began, Played, Tally, World, no_time, play, world}
+use Rattle.cycles.specs.Play.{Began, Played, Tally, no_time, play, world}
 use Rattle.cycles.specs.Tree.{Cycles}
 use Rattle.processor.specs.Interrupt.{accepted, is_restart, turned, wakes}
 

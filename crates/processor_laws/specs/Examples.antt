@@ -1,15 +1,13 @@
 -- Played examples of each group of instructions, against values worked out by hand. Assumes nothing.
-use Rattle.std.specs.Prelude.{◌≡◌, ℕ, Bool, true, false, List, [], ◌∷◌, Some, None, Ok}
+use Rattle.std.specs.Prelude.{◌≡◌, ℕ, true, false, List, [], ◌∷◌, Some, None, Ok}
 use Rattle.panel.specs.Script.{State, new_script, script_make}
 use Rattle.registers.specs.declared.registers.InterruptMode.TheVariants.{One}
 use Rattle.registers.specs.declared.registers.Mode.TheVariants.{Asleep, Halted}
 use Rattle.registers.specs.declared.registers.Registers.{Registers}
 use Rattle.registers.specs.Operands.{af, bc, de, hl, with_af, with_bc, with_de, with_hl}
-use Rattle.registers.specs.Registers.{fresh_window, with_alternate, with_i, with_ief2, with_ix, with_iy, with_r}
-use Rattle.cycles.specs.Play.{Tally}
-use Rattle.processor.specs.Step.{Model, Turn, step}
+use Rattle.registers.specs.Registers.{with_ief2, with_ix, with_iy, with_r}
+use Rattle.processor.specs.Step.{Turn, step}
 use Rattle.processor_laws.specs.Bench.{at_start, card, memory_with}
-use Rattle.processor_laws.specs.Worked.{stacked}
 
 -- The instruction stands at 1000H, SP is 9000H, and HL, IX and IY point at 2000H, 3000H and 4000H; the panel answers reads with 85H.
 abbrev pub filled : ℕ → Registers

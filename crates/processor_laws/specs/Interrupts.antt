@@ -1,17 +1,15 @@
 -- Interrupts, idle steps and waking, each on a card that is set up for it. Assumes nothing.
-use Rattle.std.specs.Prelude.{◌≡◌, ℕ, Bool, true, false, List, [], ◌∷◌, Some, None, Ok, Err, Option}
+use Rattle.std.specs.Prelude.{◌≡◌, ℕ, Bool, true, false, [], ◌∷◌, Some, None, Ok, Err, Option}
 use Rattle.denial.specs.Denials.{numbered}
 use Rattle.panel.specs.declared.line.Line.{Line}
 use Rattle.panel.specs.declared.line.Line.TheVariants.{Int0, Int1, Int2, Nmi}
 use Rattle.panel.specs.Panel.{Make}
-use Rattle.registers.specs.declared.registers.InterruptMode.{InterruptMode}
-use Rattle.registers.specs.declared.registers.InterruptMode.TheVariants.{One, Two, Zero}
+use Rattle.registers.specs.declared.registers.InterruptMode.TheVariants.{One, Two}
 use Rattle.registers.specs.declared.registers.Mode.{Mode}
 use Rattle.registers.specs.declared.registers.Mode.TheVariants.{Asleep, Halted, Running}
 use Rattle.registers.specs.declared.registers.Registers.{Registers}
 use Rattle.registers.specs.Registers.{with_ei, with_i, with_ief1, with_ief2, with_il, with_im, with_itc, with_mode, with_r}
-use Rattle.cycles.specs.Play.{Tally}
-use Rattle.processor.specs.Step.{Model, Turn, step}
+use Rattle.processor.specs.Step.{Turn, step}
 use Rattle.processor_laws.specs.Bench.{at_start, card, memory_with}
 use Rattle.processor_laws.specs.Worked.{stacked}
 

@@ -1,5 +1,5 @@
 -- The published totals of the main page, where CBH, DDH, EDH and FDH lead to other pages. Assumes nothing.
-use Rattle.std.specs.Prelude.{ℕ, List, [], ◌∷◌}
+use Rattle.std.specs.Prelude.{[], ◌∷◌}
 use Rattle.processor_laws.specs.Table.{Grid}
 
 -- Conditional forms that are not taken; for the others there is one way.

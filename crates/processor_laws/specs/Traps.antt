@@ -1,6 +1,5 @@
 -- Every undefined byte traps. Assumes nothing.
-use Rattle.std.specs.Prelude.{◌≡◌, ℕ, Bool, true, false, cond, not, ◌&&◌, List, [], ◌∷◌, ◌==◌}
-use Rattle.arithmetic.specs.Flags.{byte, from}
+use Rattle.std.specs.Prelude.{◌≡◌, ℕ, Bool, true, cond, ◌&&◌, List, [], ◌∷◌, ◌==◌}
 use Rattle.panel.specs.Script.{State}
 use Rattle.registers.specs.declared.registers.Registers.{Registers}
 use Rattle.registers.specs.Operands.{with_af, with_bc, with_de, with_hl}

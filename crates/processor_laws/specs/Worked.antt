@@ -1,13 +1,12 @@
 -- Worked numbers, one statement over all of them. Assumes nothing.
-use Rattle.std.specs.Prelude.{◌≡◌, ℕ, ◌+◌, List, [], ◌∷◌, Some, Ok}
+use Rattle.std.specs.Prelude.{◌≡◌, ℕ, ◌+◌, [], ◌∷◌, Some, Ok}
 use Rattle.arithmetic.specs.Flags.{byte}
 use Rattle.panel.specs.Script.{State, script_make}
 use Rattle.registers.specs.declared.window.Area.TheVariants.{Common0, Common1}
-use Rattle.registers.specs.declared.window.Window.{Window}
 use Rattle.registers.specs.Operands.{af, hl, with_af, with_bc, with_hl}
 use Rattle.registers.specs.Registers.{fresh_window, word}
 use Rattle.registers.specs.Window.{area_of, physical_of, window_48, window_84}
-use Rattle.processor.specs.Step.{Model, Turn, step}
+use Rattle.processor.specs.Step.{Turn, step}
 use Rattle.processor_laws.specs.Bench.{at_start, memory_with, quiet, stepped}
 
 -- The word that the stack pointer stands at.

@@ -1,5 +1,5 @@
 -- One register changed and the others kept, pairs as words, and what reset leaves. Assumes nothing.
-use Rattle.std.specs.Prelude.{ℕ, ◌+◌, ◌-◌, ◌*◌, ◌/◌, ◌%◌, Bool, true, false, cond, nat_lt}
+use Rattle.std.specs.Prelude.{ℕ, ◌+◌, ◌-◌, ◌*◌, ◌/◌, ◌%◌, Bool, false, cond, nat_lt}
 use Rattle.arithmetic.specs.declared.flags.Flags.{Flags}
 use Rattle.arithmetic.specs.Flags.{from}
 use Rattle.registers.specs.declared.registers.RegisterSet.{RegisterSet}

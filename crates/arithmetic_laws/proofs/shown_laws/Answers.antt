@@ -1,4 +1,4 @@
-use Rattle.std.proofs.Common.{◌≡◌, ℕ, ◌%◌, Bool, eqb, refl}
+use Rattle.std.proofs.Common.{ℕ, ◌%◌, Bool, eqb, refl}
 use lib.Count.{ones, ones_in}
 use Rattle.arithmetic.specs.Add.{plus, minus, negate}
 use Rattle.arithmetic.specs.Block.{port_zero}

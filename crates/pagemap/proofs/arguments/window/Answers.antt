@@ -1,4 +1,4 @@
-use Rattle.std.proofs.Common.{◌≡◌, ◌<◌, length, string_bytes, sym, ap, ◌∙◌, arith, rules}
+use Rattle.std.proofs.Common.{◌≡◌, ◌<◌, length, string_bytes, ◌∙◌, rules}
 use Rattle.pagemap.specs.declared.arguments.Place.TheVariants.{Cbar, Cbr, Bbr}
 use Rattle.pagemap.specs.Arguments.{window_from, byte_for, base_for}
 use Rattle.pagemap.proofs.Asked.{none, three, other}

@@ -1,4 +1,4 @@
-use Rattle.std.proofs.Common.{[], ◌∷◌, string_bytes, codes}
+use Rattle.std.proofs.Common.{[], ◌∷◌, codes}
 use Rattle.pagemap.specs.Lines.{head_text}
 use Rattle.pagemap.specs.Listing.{opened_text, pages_text}
 use Rattle.pagemap.proofs.Appending.{five}

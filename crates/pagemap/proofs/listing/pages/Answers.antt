@@ -1,4 +1,3 @@
-use Rattle.std.proofs.Common.{string_bytes}
 use Rattle.pagemap.proofs.Appending.{no_pages, page_more}
 use Rattle.pagemap.proofs.listing.pages.Goals as goal
 

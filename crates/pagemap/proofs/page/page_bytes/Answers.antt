@@ -1,4 +1,4 @@
-use Rattle.std.proofs.Common.{◌≡◌, ◌+◌, ◌*◌, ◌<◌, length, ap, ◌∙◌, arith, length-set}
+use Rattle.std.proofs.Common.{◌+◌, ◌*◌, ◌<◌, length, ap, ◌∙◌, arith, length-set}
 use Rattle.pagemap.specs.Pages.{byte_seen_through}
 use Rattle.pagemap.proofs.Filling.{filled, filled_more}
 use Rattle.pagemap.proofs.page.page_bytes.Goals as goal

@@ -1,4 +1,3 @@
-use mathlib.Core.Path.{refl}
 use borrow.Author.Rules.{rules}
 use Rattle.arithmetic.proofs.Packing.{pack_unpack}
 use Rattle.arithmetic.proofs.flags.Flags.from_byte.Goals as goal

@@ -1,4 +1,4 @@
-use Rattle.std.proofs.Common.{sym, subst, rules}
+use Rattle.std.proofs.Common.{sym, subst}
 use Rattle.std.specs.Fmt.{HasWritten}
 use Rattle.pagemap.specs.Arguments.{bad_argument_line}
 use Rattle.pagemap.proofs.arguments.BadArgumentDisplay.fmt.Goals as goal

@@ -1,4 +1,3 @@
-use Rattle.std.proofs.Common.{rules}
 use Rattle.pagemap.specs.Lines.{head_text}
 use Rattle.pagemap.proofs.head.HeadDisplay.fmt.Goals as goal
 

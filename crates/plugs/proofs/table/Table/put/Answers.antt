@@ -1,4 +1,4 @@
-use Rattle.std.proofs.Common.{◌≡◌, ◌+◌, ◌<◌, ◌≤◌, min, length, take, set, sym, refl, ap, ◌∙◌, arith, length-take, rules}
+use Rattle.std.proofs.Common.{◌≡◌, ◌+◌, ◌<◌, min, length, take, set, refl, ap, ◌∙◌, arith, length-take, rules}
 use Rattle.plugs.specs.Places.{held, place_of}
 use Rattle.plugs.proofs.Placing.{put_new, put_old, too_many}
 use Rattle.plugs.proofs.table.Table.put.Given as given

@@ -1,4 +1,4 @@
-use Rattle.std.proofs.Common.{◌≡◌, false, sym, ap, ◌∙◌, arith, ne_eqb}
+use Rattle.std.proofs.Common.{◌≡◌, sym, ap, ◌∙◌, arith, ne_eqb}
 use Rattle.registers.specs.Window.{opens_on, shown_among}
 use Rattle.registers.proofs.Opened.{among_none, among_some}
 use Rattle.registers.proofs.window.Window.opens_on.Goals as goal
