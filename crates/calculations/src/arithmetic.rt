@@ -1,5 +1,5 @@
 // Arithmetic and logic of bytes and of words, behind their opcode bytes.
-ghost use Rattle.instructions.specs.declared.group.arithmetic.Arithmetic.TheVariants as form;
+ghost use Rattle.instructions.specs.declared.group.calculation.Arithmetic.TheVariants as form;
 ghost use Rattle.machine.specs.Machines.{Below, Ends};
 ghost use Rattle.processor.specs.Arithmetic as of;
 ghost use Rattle.processor.specs.Arithmetic.{calculates};
@@ -10,7 +10,7 @@ use crate::change::Change;
 use arithmetic::multiply::multiply;
 use arithmetic::operation::Operation;
 use arithmetic::{add, logic, port, wide};
-use instructions::group::arithmetic::{Addend, Arithmetic};
+use instructions::group::calculation::{Addend, Arithmetic};
 use machine::state::Machine;
 use memory::Memory;
 use operands::index::{index, set_index};

@@ -4,7 +4,7 @@ use Rattle.registers.specs.declared.operand.Direction.{Direction}
 use Rattle.registers.specs.declared.operand.Register.{Register}
 use Rattle.registers.specs.declared.registers.InterruptMode.TheVariants as mode
 use Rattle.decoder.specs.Field.{x, y, z, p, q, one_of_2, one_of_4, one_of_8, register, pair, direction}
-use Rattle.instructions.specs.declared.group.arithmetic.Arithmetic.TheVariants as arithmetic
+use Rattle.instructions.specs.declared.group.calculation.Arithmetic.TheVariants as arithmetic
 use Rattle.instructions.specs.declared.group.block.Block.TheVariants as block
 use Rattle.instructions.specs.declared.group.call.Call.TheVariants as call
 use Rattle.instructions.specs.declared.group.control.Control.TheVariants as control

@@ -14,8 +14,8 @@ use Rattle.registers.specs.declared.operand.Register.{Register}
 use Rattle.registers.specs.declared.operand.Register.TheVariants as registers
 use Rattle.registers.specs.declared.operand.StackPair.{StackPair}
 use Rattle.registers.specs.declared.operand.StackPair.TheVariants as stack
-use Rattle.instructions.specs.declared.group.arithmetic.Addend.{Addend}
-use Rattle.instructions.specs.declared.group.arithmetic.Addend.TheVariants as addends
+use Rattle.instructions.specs.declared.group.calculation.Addend.{Addend}
+use Rattle.instructions.specs.declared.group.calculation.Addend.TheVariants as addends
 
 -- Bits 7 and 6, bits 5 to 3, and bits 2 to 0 of a byte.
 abbrev pub x : ℕ → ℕ

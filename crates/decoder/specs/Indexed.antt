@@ -4,7 +4,7 @@ use Rattle.arithmetic.specs.declared.operation.Operation.{Operation}
 use Rattle.registers.specs.declared.operand.Index.{Index}
 use Rattle.registers.specs.declared.operand.Register.{Register}
 use Rattle.decoder.specs.Field.{x, y, z, p, q, one_of_2, one_of_4, one_of_8, register, addend, operation}
-use Rattle.instructions.specs.declared.group.arithmetic.Arithmetic.TheVariants as arithmetic
+use Rattle.instructions.specs.declared.group.calculation.Arithmetic.TheVariants as arithmetic
 use Rattle.instructions.specs.declared.group.exchange.Exchange.TheVariants as exchange
 use Rattle.instructions.specs.declared.group.jump.Jump.TheVariants as jump
 use Rattle.instructions.specs.declared.group.load.Load.TheVariants as load

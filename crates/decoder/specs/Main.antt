@@ -7,7 +7,7 @@ use Rattle.registers.specs.declared.operand.Index.TheVariants.{Ix, Iy}
 use Rattle.registers.specs.declared.operand.Pointer.TheVariants as pointer
 use Rattle.registers.specs.declared.operand.Register.{Register}
 use Rattle.decoder.specs.Field.{x, y, z, p, q, one_of_2, one_of_4, one_of_8, register, pair, stack_pair, condition, operation}
-use Rattle.instructions.specs.declared.group.arithmetic.Arithmetic.TheVariants as arithmetic
+use Rattle.instructions.specs.declared.group.calculation.Arithmetic.TheVariants as arithmetic
 use Rattle.instructions.specs.declared.group.call.Call.TheVariants as call
 use Rattle.instructions.specs.declared.group.control.Control.TheVariants as control
 use Rattle.instructions.specs.declared.group.exchange.Exchange.TheVariants as exchange

@@ -4,8 +4,8 @@ ghost use Rattle.decoder.specs.Field as field;
 ghost use Rattle.std.specs.Prelude.{◌≡◌};
 
 use crate::field::{direction, pair, register};
-use instructions::group::arithmetic::Arithmetic;
 use instructions::group::block::Block;
+use instructions::group::calculation::Arithmetic;
 use instructions::group::call::Call;
 use instructions::group::control::Control;
 use instructions::group::load::Load;

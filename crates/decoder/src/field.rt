@@ -4,7 +4,7 @@ ghost use Rattle.std.specs.Prelude.{◌≡◌};
 
 use arithmetic::operation::Operation;
 use arithmetic::rotate::Rotate;
-use instructions::group::arithmetic::Addend;
+use instructions::group::calculation::Addend;
 use registers::operand::{Condition, Direction, Pair, Register, StackPair};
 
 // The register of a field; 6 names none: it is (HL), or (IX+d) behind DDH.

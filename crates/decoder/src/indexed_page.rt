@@ -5,7 +5,7 @@ ghost use Rattle.std.specs.Prelude.{◌≡◌};
 
 use crate::field::{addend, operation, register};
 use crate::page::Second;
-use instructions::group::arithmetic::Arithmetic;
+use instructions::group::calculation::Arithmetic;
 use instructions::group::exchange::Exchange;
 use instructions::group::jump::Jump;
 use instructions::group::load::Load;

@@ -6,7 +6,7 @@ ghost use Rattle.decoder.specs.Main as of;
 use crate::field::{condition, operation, pair, register, stack_pair};
 use crate::page::{First, Page};
 use arithmetic::rotate::Rotate;
-use instructions::group::arithmetic::Arithmetic;
+use instructions::group::calculation::Arithmetic;
 use instructions::group::call::Call;
 use instructions::group::control::Control;
 use instructions::group::exchange::Exchange;

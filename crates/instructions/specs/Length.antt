@@ -4,8 +4,8 @@ use Rattle.instructions.specs.declared.group.load.Load.{Load}
 use Rattle.instructions.specs.declared.group.load.Load.TheVariants as load
 use Rattle.instructions.specs.declared.group.exchange.Exchange.{Exchange}
 use Rattle.instructions.specs.declared.group.exchange.Exchange.TheVariants as exchange
-use Rattle.instructions.specs.declared.group.arithmetic.Arithmetic.{Arithmetic}
-use Rattle.instructions.specs.declared.group.arithmetic.Arithmetic.TheVariants as arithmetic
+use Rattle.instructions.specs.declared.group.calculation.Arithmetic.{Arithmetic}
+use Rattle.instructions.specs.declared.group.calculation.Arithmetic.TheVariants as arithmetic
 use Rattle.instructions.specs.declared.group.rotation.Rotation.{Rotation}
 use Rattle.instructions.specs.declared.group.rotation.Rotation.TheVariants as rotation
 use Rattle.instructions.specs.declared.group.bit.Bit.{Bit}

@@ -2,9 +2,9 @@
 ghost use Rattle.instructions.specs.Length as bytes;
 ghost use Rattle.std.specs.Prelude.{◌≡◌};
 
-use crate::group::arithmetic::Arithmetic;
 use crate::group::bit::Bit;
 use crate::group::block::Block;
+use crate::group::calculation::Arithmetic;
 use crate::group::call::Call;
 use crate::group::control::Control;
 use crate::group::exchange::Exchange;

@@ -4,8 +4,8 @@ use Rattle.arithmetic.specs.declared.operation.Operation.{Operation}
 use Rattle.arithmetic.specs.declared.operation.Operation.TheVariants as operations
 use Rattle.arithmetic.specs.declared.rotate.Rotate.{Rotate}
 use Rattle.arithmetic.specs.declared.rotate.Rotate.TheVariants as rotates
-use Rattle.instructions.specs.declared.group.arithmetic.Addend.{Addend}
-use Rattle.instructions.specs.declared.group.arithmetic.Addend.TheVariants as addends
+use Rattle.instructions.specs.declared.group.calculation.Addend.{Addend}
+use Rattle.instructions.specs.declared.group.calculation.Addend.TheVariants as addends
 use Rattle.registers.specs.declared.operand.Condition.{Condition}
 use Rattle.registers.specs.declared.operand.Condition.TheVariants as conditions
 use Rattle.registers.specs.declared.operand.Direction.{Direction}

@@ -14,10 +14,10 @@ use Rattle.registers.specs.declared.operand.Register.TheVariants as register
 use Rattle.registers.specs.declared.registers.Registers.{Registers}
 use Rattle.registers.specs.Operands.{bc, de, hl, index_of, pair_of, value_of, with_hl, with_index, with_pair}
 use Rattle.registers.specs.Registers.{Processor, down, up, with_f}
-use Rattle.instructions.specs.declared.group.arithmetic.Addend.{Addend}
-use Rattle.instructions.specs.declared.group.arithmetic.Addend.TheVariants as addend
-use Rattle.instructions.specs.declared.group.arithmetic.Arithmetic.{Arithmetic}
-use Rattle.instructions.specs.declared.group.arithmetic.Arithmetic.TheVariants as arithmetic
+use Rattle.instructions.specs.declared.group.calculation.Addend.{Addend}
+use Rattle.instructions.specs.declared.group.calculation.Addend.TheVariants as addend
+use Rattle.instructions.specs.declared.group.calculation.Arithmetic.{Arithmetic}
+use Rattle.instructions.specs.declared.group.calculation.Arithmetic.TheVariants as arithmetic
 use Rattle.cycles.specs.Tree.{Cycles, Cycles.internal, Cycles.read}
 use Rattle.processor.specs.Parts.{finish, indexed, modify, operand, taking}
 
