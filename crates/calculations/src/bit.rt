@@ -22,7 +22,7 @@ use registers::registers::Registers;
 // A test, reset or set of a bit; the displacement, where there is one, stood before the last opcode byte.
 pub fn on_bit<M: Memory, P: Panel>(m: &mut Machine<M, P>, form: Bit, displacement: u8)
     requires { Below 400 m.old }
-    ensures { Ends make memory state (bits_of form displacement) m.old m.new }
+    ensures { Ends P.make M.memory P.state (bits_of form displacement) m.old m.new }
 {
     match form {
         Bit::TestRegister(number, register) => test_register(m, number, register),
@@ -53,7 +53,7 @@ fn test(cpu: &mut Registers, number: u8, value: u8)
 // BIT b,r
 fn test_register<M: Memory, P: Panel>(m: &mut Machine<M, P>, number: u8, register: Register)
     requires { Below 500 m.old }
-    ensures { Ends make memory state (bits_of (form.TestRegister number register) 0) m.old m.new }
+    ensures { Ends P.make M.memory P.state (bits_of (form.TestRegister number register) 0) m.old m.new }
 {
     let value = byte(&m.cpu, register);
     test(&mut m.cpu, number, value);
@@ -62,7 +62,7 @@ fn test_register<M: Memory, P: Panel>(m: &mut Machine<M, P>, number: u8, registe
 // BIT b,(HL)
 fn test_memory<M: Memory, P: Panel>(m: &mut Machine<M, P>, number: u8)
     requires { Below 500 m.old }
-    ensures { Ends make memory state (bits_of (form.TestMemory number) 0) m.old m.new }
+    ensures { Ends P.make M.memory P.state (bits_of (form.TestMemory number) 0) m.old m.new }
 {
     let at = pair(&m.cpu, Pair::Hl);
     let value = m.read(at);
@@ -77,7 +77,7 @@ fn test_indexed<M: Memory, P: Panel>(
     displacement: u8,
 )
     requires { Below 500 m.old }
-    ensures { Ends make memory state (bits_of (form.TestIndexed number name) displacement) m.old m.new }
+    ensures { Ends P.make M.memory P.state (bits_of (form.TestIndexed number name) displacement) m.old m.new }
 {
     let at = displaced(index(&m.cpu, name), displacement);
     let value = m.read(at);

@@ -34,7 +34,7 @@ pub(crate) fn in_register<M: Memory, P: Panel>(
     register: Register,
 )
     requires { Below 500 m.old }
-    ensures { Ends make memory state (of.in_register change register) m.old m.new }
+    ensures { Ends P.make M.memory P.state (of.in_register change register) m.old m.new }
 {
     m.internal(1);
     let (value, flags) = changed(change, byte(&m.cpu, register), m.cpu.main.f);
@@ -44,7 +44,7 @@ pub(crate) fn in_register<M: Memory, P: Panel>(
 
 fn at_address<M: Memory, P: Panel>(m: &mut Machine<M, P>, change: Change, at: u16)
     requires { Below 600 m.old }
-    ensures { Ends make memory state (of.at_address change at) m.old m.new }
+    ensures { Ends P.make M.memory P.state (of.at_address change at) m.old m.new }
 {
     let old = m.read(at);
     let (value, flags) = changed(change, old, m.cpu.main.f);
@@ -55,7 +55,7 @@ fn at_address<M: Memory, P: Panel>(m: &mut Machine<M, P>, change: Change, at: u1
 
 pub(crate) fn at_hl<M: Memory, P: Panel>(m: &mut Machine<M, P>, change: Change)
     requires { Below 500 m.old }
-    ensures { Ends make memory state (of.at_hl change) m.old m.new }
+    ensures { Ends P.make M.memory P.state (of.at_hl change) m.old m.new }
 {
     let at = pair(&m.cpu, Pair::Hl);
     at_address(m, change, at);
@@ -64,7 +64,7 @@ pub(crate) fn at_hl<M: Memory, P: Panel>(m: &mut Machine<M, P>, change: Change)
 // The displacement is the next byte.
 pub(crate) fn at_index<M: Memory, P: Panel>(m: &mut Machine<M, P>, change: Change, name: Index)
     requires { Below 500 m.old }
-    ensures { Ends make memory state (of.at_index change name) m.old m.new }
+    ensures { Ends P.make M.memory P.state (of.at_index change name) m.old m.new }
 {
     let at = m.indexed(name);
     m.internal(2);
@@ -79,7 +79,7 @@ pub(crate) fn behind_index<M: Memory, P: Panel>(
     displacement: u8,
 )
     requires { Below 500 m.old }
-    ensures { Ends make memory state (of.behind_index change name displacement) m.old m.new }
+    ensures { Ends P.make M.memory P.state (of.behind_index change name displacement) m.old m.new }
 {
     let at = displaced(index(&m.cpu, name), displacement);
     at_address(m, change, at);

@@ -16,7 +16,7 @@ use registers::operand::Pair;
 // A rotate or a shift; the displacement, where there is one, stood before the last opcode byte.
 pub fn rotate<M: Memory, P: Panel>(m: &mut Machine<M, P>, form: Rotation, displacement: u8)
     requires { Below 400 m.old }
-    ensures { Ends make memory state (rotates form displacement) m.old m.new }
+    ensures { Ends P.make M.memory P.state (rotates form displacement) m.old m.new }
 {
     match form {
         Rotation::Accumulator(kind) => accumulator(m, kind),
@@ -31,7 +31,7 @@ pub fn rotate<M: Memory, P: Panel>(m: &mut Machine<M, P>, form: Rotation, displa
 // RLCA, RRCA, RLA and RRA
 fn accumulator<M: Memory, P: Panel>(m: &mut Machine<M, P>, kind: Rotate)
     requires { Below 500 m.old }
-    ensures { Ends make memory state (rotates (form.Accumulator kind) 0) m.old m.new }
+    ensures { Ends P.make M.memory P.state (rotates (form.Accumulator kind) 0) m.old m.new }
 {
     let (a, flags) = kind.accumulator(m.cpu.main.a, m.cpu.main.f);
     m.cpu.main.a = a;
@@ -41,7 +41,7 @@ fn accumulator<M: Memory, P: Panel>(m: &mut Machine<M, P>, kind: Rotate)
 // RLD
 fn digits_left<M: Memory, P: Panel>(m: &mut Machine<M, P>)
     requires { Below 500 m.old }
-    ensures { Ends make memory state (rotates form.DigitsLeft 0) m.old m.new }
+    ensures { Ends P.make M.memory P.state (rotates form.DigitsLeft 0) m.old m.new }
 {
     let at = pair(&m.cpu, Pair::Hl);
     let old = m.read(at);
@@ -55,7 +55,7 @@ fn digits_left<M: Memory, P: Panel>(m: &mut Machine<M, P>)
 // RRD
 fn digits_right<M: Memory, P: Panel>(m: &mut Machine<M, P>)
     requires { Below 500 m.old }
-    ensures { Ends make memory state (rotates form.DigitsRight 0) m.old m.new }
+    ensures { Ends P.make M.memory P.state (rotates form.DigitsRight 0) m.old m.new }
 {
     let at = pair(&m.cpu, Pair::Hl);
     let old = m.read(at);

@@ -8,7 +8,7 @@ use Rattle.cycles.specs.Play.{Tally}
 use Rattle.processor.proofs.Steps as steps
 use Rattle.processor.specs.Interrupt.{accepted}
 use Rattle.processor.specs.Seclusion.{Both, IfTaken}
-use Rattle.processor.specs.Step.{Faulted, Model, Turn, denied, no_restart, step, taken}
+use Rattle.processor.specs.Step.{Faulted, Model, Turn, denied, no_restart, step}
 use Rattle.execution.specs.Lines.{line, number}
 use Rattle.execution.specs.Steps.{Secluded, over, took_line}
 

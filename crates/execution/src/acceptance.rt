@@ -10,7 +10,7 @@ use registers::registers::{InterruptMode, Registers};
 
 // The first of INT0, INT1 and INT2 that is asked for and that ITC enables.
 fn enabled<P: Panel>(panel: &P, cpu: &Registers) -> Option<u8>
-    ensures { result ≡ of.number (interrupt.enabled make (state panel.now) cpu.now) }
+    ensures { result ≡ of.number (interrupt.enabled P.make (P.state panel.now) cpu.now) }
 {
     if cpu.itc % 2 == 1 && panel.asks(Line::Int0) {
         Some(1)
@@ -25,7 +25,7 @@ fn enabled<P: Panel>(panel: &P, cpu: &Registers) -> Option<u8>
 
 // NMI is always accepted; the others need IEF1, and that the step before was not EI.
 pub(crate) fn accepted<P: Panel>(panel: &P, cpu: &Registers) -> Option<u8>
-    ensures { result ≡ of.number (interrupt.accepted make (state panel.now) cpu.now) }
+    ensures { result ≡ of.number (interrupt.accepted P.make (P.state panel.now) cpu.now) }
 {
     if panel.asks(Line::Nmi) {
         Some(0)
@@ -38,7 +38,7 @@ pub(crate) fn accepted<P: Panel>(panel: &P, cpu: &Registers) -> Option<u8>
 
 // A sleeping card with IEF1 = 0 wakes when an enabled line is asked for, and accepts nothing.
 pub(crate) fn wakes<P: Panel>(panel: &P, cpu: &Registers) -> bool
-    ensures { result ≡ interrupt.wakes make (state panel.now) cpu.now }
+    ensures { result ≡ interrupt.wakes P.make (P.state panel.now) cpu.now }
 {
     !cpu.ief1 && enabled(panel, cpu).is_some()
 }
@@ -51,7 +51,7 @@ fn is_restart(byte: u8) -> bool
 
 // INT0 is accepted in mode 0, and the panel's byte is no restart.
 pub(crate) fn no_restart<P: Panel>(panel: &P, mode: InterruptMode, line: Option<u8>) -> bool
-    ensures { result ≡ stepping.no_restart (of.line line) mode (make.int0_byte (state panel.now)) }
+    ensures { result ≡ stepping.no_restart (of.line line) mode (P.make.int0_byte (P.state panel.now)) }
 {
     match (line, mode) {
         (Some(1), InterruptMode::Zero) => !is_restart(panel.int0_byte()),

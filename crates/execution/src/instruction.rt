@@ -3,8 +3,8 @@ ghost use Rattle.std.specs.Prelude.{◌<◌};
 ghost use Rattle.machine.specs.Machines.{Below, Ends};
 ghost use Rattle.processor.specs.Instruction as of;
 
-use calculations::arithmetic::calculate;
 use calculations::bit::on_bit;
+use calculations::calculation::calculate;
 use calculations::rotation::rotate;
 use decoder::page::{First, Page, Second};
 use decoder::{cb_page, ed_page, indexed_cb_page, indexed_page, main_page};
@@ -29,7 +29,7 @@ fn carry_out<const PREFIXED: bool, M: Memory, P: Panel>(
     displacement: u8,
 )
     requires { Below 300 m.old }
-    ensures { Ends make memory state (of.carried_out instruction displacement) m.old m.new }
+    ensures { Ends P.make M.memory P.state (of.carried_out instruction displacement) m.old m.new }
 {
     match instruction {
         Instruction::Load(form) => load(m, form),
@@ -50,7 +50,7 @@ fn carry_out<const PREFIXED: bool, M: Memory, P: Panel>(
 fn trap<M: Memory, P: Panel>(m: &mut Machine<M, P>, ufo: u8, address: u16)
     requires below { Below 300 m.old }
     requires ufo_bound { ufo < 2 }
-    ensures { Ends make memory state (of.trapped ufo address) m.old m.new }
+    ensures { Ends P.make M.memory P.state (of.trapped ufo address) m.old m.new }
 {
     m.cpu.itc = 128 + ufo * 64 + m.cpu.itc % 64;
     m.push(address);
@@ -67,7 +67,7 @@ fn carry_out_or_trap<M: Memory, P: Panel>(
 )
     requires below { Below 300 m.old }
     requires ufo_bound { ufo < 2 }
-    ensures { Ends make memory state (of.or_trap decoded displacement ufo address) m.old m.new }
+    ensures { Ends P.make M.memory P.state (of.or_trap decoded displacement ufo address) m.old m.new }
 {
     match decoded {
         Some(instruction) => carry_out::<true, M, P>(m, instruction, displacement),
@@ -78,7 +78,7 @@ fn carry_out_or_trap<M: Memory, P: Panel>(
 // Behind DDH CBH and FDH CBH the displacement comes before the third opcode byte.
 fn third<M: Memory, P: Panel>(m: &mut Machine<M, P>, name: Index, start: u16)
     requires { Below 250 m.old }
-    ensures { Ends make memory state (of.third name start) m.old m.new }
+    ensures { Ends P.make M.memory P.state (of.third name start) m.old m.new }
 {
     let displacement = m.operand();
     let byte = m.opcode();
@@ -88,7 +88,7 @@ fn third<M: Memory, P: Panel>(m: &mut Machine<M, P>, name: Index, start: u16)
 
 fn behind_index<M: Memory, P: Panel>(m: &mut Machine<M, P>, second: Second, name: Index, start: u16)
     requires { Below 200 m.old }
-    ensures { Ends make memory state (of.behind_index second name start) m.old m.new }
+    ensures { Ends P.make M.memory P.state (of.behind_index second name start) m.old m.new }
 {
     match second {
         Second::Instruction(instruction) => carry_out::<true, M, P>(m, instruction, 0),
@@ -99,7 +99,7 @@ fn behind_index<M: Memory, P: Panel>(m: &mut Machine<M, P>, second: Second, name
 
 fn on_page<M: Memory, P: Panel>(m: &mut Machine<M, P>, page: Page, start: u16)
     requires { Below 150 m.old }
-    ensures { Ends make memory state (of.on_page page start) m.old m.new }
+    ensures { Ends P.make M.memory P.state (of.on_page page start) m.old m.new }
 {
     let byte = m.opcode();
     match page {
@@ -111,7 +111,7 @@ fn on_page<M: Memory, P: Panel>(m: &mut Machine<M, P>, page: Page, start: u16)
 
 fn behind_first<M: Memory, P: Panel>(m: &mut Machine<M, P>, first: First, start: u16)
     requires { Below 100 m.old }
-    ensures { Ends make memory state (of.behind_first first start) m.old m.new }
+    ensures { Ends P.make M.memory P.state (of.behind_first first start) m.old m.new }
 {
     match first {
         First::Instruction(instruction) => carry_out::<false, M, P>(m, instruction, 0),
@@ -121,7 +121,7 @@ fn behind_first<M: Memory, P: Panel>(m: &mut Machine<M, P>, first: First, start:
 
 pub(crate) fn execute<M: Memory, P: Panel>(m: &mut Machine<M, P>)
     requires { Below 50 m.old }
-    ensures { Ends make memory state of.executed m.old m.new }
+    ensures { Ends P.make M.memory P.state of.executed m.old m.new }
 {
     let start = m.cpu.pc;
     let byte = m.opcode();

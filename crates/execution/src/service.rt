@@ -16,7 +16,7 @@ use registers::registers::{InterruptMode, Registers};
 // PC is pushed and read from a table in memory, low byte first.
 fn vectored<M: Memory, P: Panel>(m: &mut Machine<M, P>, at: u16)
     requires { Below 300 m.old }
-    ensures { Ends make memory state (interrupt.vectored at) m.old m.new }
+    ensures { Ends P.make M.memory P.state (interrupt.vectored at) m.old m.new }
 {
     let back = m.cpu.pc;
     m.push(back);
@@ -25,7 +25,7 @@ fn vectored<M: Memory, P: Panel>(m: &mut Machine<M, P>, at: u16)
 
 fn nmi<M: Memory, P: Panel>(m: &mut Machine<M, P>)
     requires { Below 200 m.old }
-    ensures { Ends make memory state (interrupt.served line.Nmi 0) m.old m.new }
+    ensures { Ends P.make M.memory P.state (interrupt.served line.Nmi 0) m.old m.new }
 {
     m.cpu.ief2 = m.cpu.ief1;
     m.cpu.ief1 = false;
@@ -36,7 +36,7 @@ fn nmi<M: Memory, P: Panel>(m: &mut Machine<M, P>)
 // A restart in mode 0, 0038H in mode 1, by the table at I x 256 in mode 2.
 fn int0<M: Memory, P: Panel>(m: &mut Machine<M, P>, byte: u8)
     requires { Below 200 m.old }
-    ensures { Ends make memory state (λ p. interrupt.int0 p.cpu.im byte p) m.old m.new }
+    ensures { Ends P.make M.memory P.state (λ p. interrupt.int0 p.cpu.im byte p) m.old m.new }
 {
     match m.cpu.im {
         InterruptMode::Zero => {
@@ -58,7 +58,7 @@ fn int0<M: Memory, P: Panel>(m: &mut Machine<M, P>, byte: u8)
 // INT1 and INT2, by the table at I x 256; IL gives the place in it.
 fn by_table<M: Memory, P: Panel>(m: &mut Machine<M, P>, name: Line, place: u16)
     requires { Below 200 m.old }
-    ensures { Ends make memory state (of.by_table name place) m.old m.new }
+    ensures { Ends P.make M.memory P.state (of.by_table name place) m.old m.new }
 {
     m.acknowledge(name, 6);
     let at = (u16::from(m.cpu.i) * 256).wrapping_add(place);
@@ -85,7 +85,7 @@ fn mask(cpu: &mut Registers)
 
 pub(crate) fn serve<M: Memory, P: Panel>(m: &mut Machine<M, P>, number: u8)
     requires { Below 100 m.old }
-    ensures { Ends make memory state (interrupt.served (of.numbered number) (make.int0_byte (state m.old.panel))) m.old m.new }
+    ensures { Ends P.make M.memory P.state (interrupt.served (of.numbered number) (P.make.int0_byte (P.state m.old.panel))) m.old m.new }
 {
     match named(number) {
         Line::Nmi => nmi(m),

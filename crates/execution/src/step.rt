@@ -21,7 +21,7 @@ use registers::registers::Mode;
 // A sleeping card that accepts no line.
 fn doze<M: Memory, P: Panel>(m: &mut Machine<M, P>)
     requires { Below 20 m.old }
-    ensures { Ends make memory state (λ p. interrupt.turned mode.Asleep None (interrupt.wakes make (state m.old.panel) p.cpu) (make.int0_byte (state m.old.panel)) p) m.old m.new }
+    ensures { Ends P.make M.memory P.state (λ p. interrupt.turned mode.Asleep None (interrupt.wakes P.make (P.state m.old.panel) p.cpu) (P.make.int0_byte (P.state m.old.panel)) p) m.old m.new }
 {
     if wakes(&m.panel, &m.cpu) {
         m.cpu.mode = Mode::Running;
@@ -34,7 +34,7 @@ fn doze<M: Memory, P: Panel>(m: &mut Machine<M, P>)
 // By the mode that the card is in and the line that it accepts.
 fn turn<M: Memory, P: Panel>(m: &mut Machine<M, P>, line: Option<u8>)
     requires { Below 20 m.old }
-    ensures { Ends make memory state (λ p. interrupt.turned p.cpu.mode (of.line line) (interrupt.wakes make (state m.old.panel) p.cpu) (make.int0_byte (state m.old.panel)) p) m.old m.new }
+    ensures { Ends P.make M.memory P.state (λ p. interrupt.turned p.cpu.mode (of.line line) (interrupt.wakes P.make (P.state m.old.panel) p.cpu) (P.make.int0_byte (P.state m.old.panel)) p) m.old m.new }
 {
     match (&mut m.cpu.mode, line) {
         (Mode::Running, None) => execute(m),
@@ -54,7 +54,7 @@ fn turn<M: Memory, P: Panel>(m: &mut Machine<M, P>, line: Option<u8>)
 
 // A step that is not denied. Last, the panel is told its states.
 fn take<M: Memory, P: Panel>(m: &mut Machine<M, P>, line: Option<u8>) -> Cost
-    ensures { seen memory state (Ok result) m.new ≡ took_line make (of.line line) (model memory state m.old) }
+    ensures { seen M.memory P.state (Ok result) m.new ≡ took_line P.make (of.line line) (model M.memory P.state m.old) }
 {
     m.spent = Cost {
         cycles: 0,
@@ -68,9 +68,9 @@ fn take<M: Memory, P: Panel>(m: &mut Machine<M, P>, line: Option<u8>) -> Cost
 
 // One step of the card, or a fault that changes nothing: 8 while the panel is full, 9 for an INT0 byte that is no restart.
 pub fn step<M: Memory, P: Panel>(m: &mut Machine<M, P>) -> Result<Cost, Fault>
-    ensures turn { seen memory state result m.new ≡ stepping.step make (model memory state m.old) }
-    ensures few { Few m.old.window 2 (memory m.old.memory) (memory m.new.memory) }
-    ensures secluded { Secluded make (model memory state m.old) (seen memory state result m.new) }
+    ensures turn { seen M.memory P.state result m.new ≡ stepping.step P.make (model M.memory P.state m.old) }
+    ensures few { Few m.old.window 2 (M.memory m.old.memory) (M.memory m.new.memory) }
+    ensures secluded { Secluded P.make (model M.memory P.state m.old) (seen M.memory P.state result m.new) }
 {
     let pc = m.cpu.pc;
     if m.panel.full() {

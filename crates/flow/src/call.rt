@@ -14,7 +14,7 @@ use registers::operand::Condition;
 // A call, a return or a restart.
 pub fn call_or_return<M: Memory, P: Panel>(m: &mut Machine<M, P>, form: Call)
     requires { Below 400 m.old }
-    ensures { Ends make memory state (calls form) m.old m.new }
+    ensures { Ends P.make M.memory P.state (calls form) m.old m.new }
 {
     match form {
         Call::Always => always(m),
@@ -29,7 +29,7 @@ pub fn call_or_return<M: Memory, P: Panel>(m: &mut Machine<M, P>, form: Call)
 // PC is pushed, and goes to an address.
 pub fn enter<M: Memory, P: Panel>(m: &mut Machine<M, P>, to: u16)
     requires { Below 600 m.old }
-    ensures { Ends make memory state (of.enter to) m.old m.new }
+    ensures { Ends P.make M.memory P.state (of.enter to) m.old m.new }
 {
     let back = m.cpu.pc;
     m.push(back);
@@ -39,7 +39,7 @@ pub fn enter<M: Memory, P: Panel>(m: &mut Machine<M, P>, to: u16)
 // RET and RETI
 fn back<M: Memory, P: Panel>(m: &mut Machine<M, P>)
     requires { Below 600 m.old }
-    ensures { Ends make memory state of.returns m.old m.new }
+    ensures { Ends P.make M.memory P.state of.returns m.old m.new }
 {
     m.cpu.pc = m.pop();
 }
@@ -47,7 +47,7 @@ fn back<M: Memory, P: Panel>(m: &mut Machine<M, P>)
 // CALL mn
 fn always<M: Memory, P: Panel>(m: &mut Machine<M, P>)
     requires { Below 500 m.old }
-    ensures { Ends make memory state (calls form.Always) m.old m.new }
+    ensures { Ends P.make M.memory P.state (calls form.Always) m.old m.new }
 {
     let to = m.word_operand();
     m.internal(1);
@@ -57,7 +57,7 @@ fn always<M: Memory, P: Panel>(m: &mut Machine<M, P>)
 // CALL f,mn: not taken, it passes its high byte unread.
 fn call_if<M: Memory, P: Panel>(m: &mut Machine<M, P>, condition: Condition)
     requires { Below 500 m.old }
-    ensures { Ends make memory state (calls (form.If condition)) m.old m.new }
+    ensures { Ends P.make M.memory P.state (calls (form.If condition)) m.old m.new }
 {
     let low = m.operand();
     if holds(condition, m.cpu.main.f) {
@@ -72,7 +72,7 @@ fn call_if<M: Memory, P: Panel>(m: &mut Machine<M, P>, condition: Condition)
 // RET f
 fn return_if<M: Memory, P: Panel>(m: &mut Machine<M, P>, condition: Condition)
     requires { Below 500 m.old }
-    ensures { Ends make memory state (calls (form.ReturnIf condition)) m.old m.new }
+    ensures { Ends P.make M.memory P.state (calls (form.ReturnIf condition)) m.old m.new }
 {
     if holds(condition, m.cpu.main.f) {
         m.internal(1);
@@ -85,7 +85,7 @@ fn return_if<M: Memory, P: Panel>(m: &mut Machine<M, P>, condition: Condition)
 // RETN
 fn return_from_nmi<M: Memory, P: Panel>(m: &mut Machine<M, P>)
     requires { Below 500 m.old }
-    ensures { Ends make memory state (calls form.ReturnFromNmi) m.old m.new }
+    ensures { Ends P.make M.memory P.state (calls form.ReturnFromNmi) m.old m.new }
 {
     m.cpu.pc = m.pop();
     m.cpu.ief1 = m.cpu.ief2;
@@ -94,7 +94,7 @@ fn return_from_nmi<M: Memory, P: Panel>(m: &mut Machine<M, P>)
 // RST v
 fn restart<M: Memory, P: Panel>(m: &mut Machine<M, P>, to: u8)
     requires { Below 500 m.old }
-    ensures { Ends make memory state (calls (form.Restart to)) m.old m.new }
+    ensures { Ends P.make M.memory P.state (calls (form.Restart to)) m.old m.new }
 {
     m.internal(2);
     enter(m, u16::from(to));

@@ -14,7 +14,7 @@ use registers::registers::Mode;
 // What the processor does to itself.
 pub fn control<M: Memory, P: Panel>(m: &mut Machine<M, P>, form: Control)
     requires { Below 400 m.old }
-    ensures { Ends make memory state (controls form) m.old m.new }
+    ensures { Ends P.make M.memory P.state (controls form) m.old m.new }
 {
     match form {
         Control::Nothing => {}
@@ -32,7 +32,7 @@ pub fn control<M: Memory, P: Panel>(m: &mut Machine<M, P>, form: Control)
 // DAA
 fn decimal_adjust<M: Memory, P: Panel>(m: &mut Machine<M, P>)
     requires { Below 500 m.old }
-    ensures { Ends make memory state (controls form.DecimalAdjust) m.old m.new }
+    ensures { Ends P.make M.memory P.state (controls form.DecimalAdjust) m.old m.new }
 {
     m.internal(1);
     let (a, flags) = adjust(m.cpu.main.a, m.cpu.main.f);
@@ -43,7 +43,7 @@ fn decimal_adjust<M: Memory, P: Panel>(m: &mut Machine<M, P>)
 // SCF
 fn set_carry<M: Memory, P: Panel>(m: &mut Machine<M, P>)
     requires { Below 500 m.old }
-    ensures { Ends make memory state (controls form.SetCarry) m.old m.new }
+    ensures { Ends P.make M.memory P.state (controls form.SetCarry) m.old m.new }
 {
     let (a, flags) = carry::set(m.cpu.main.a, m.cpu.main.f);
     m.cpu.main.a = a;
@@ -53,7 +53,7 @@ fn set_carry<M: Memory, P: Panel>(m: &mut Machine<M, P>)
 // CCF
 fn complement_carry<M: Memory, P: Panel>(m: &mut Machine<M, P>)
     requires { Below 500 m.old }
-    ensures { Ends make memory state (controls form.ComplementCarry) m.old m.new }
+    ensures { Ends P.make M.memory P.state (controls form.ComplementCarry) m.old m.new }
 {
     let (a, flags) = carry::complement(m.cpu.main.a, m.cpu.main.f);
     m.cpu.main.a = a;
@@ -63,7 +63,7 @@ fn complement_carry<M: Memory, P: Panel>(m: &mut Machine<M, P>)
 // SLP
 fn sleep<M: Memory, P: Panel>(m: &mut Machine<M, P>)
     requires { Below 500 m.old }
-    ensures { Ends make memory state (controls form.Sleep) m.old m.new }
+    ensures { Ends P.make M.memory P.state (controls form.Sleep) m.old m.new }
 {
     m.internal(2);
     m.cpu.mode = Mode::Asleep;
@@ -72,7 +72,7 @@ fn sleep<M: Memory, P: Panel>(m: &mut Machine<M, P>)
 // DI
 fn disable<M: Memory, P: Panel>(m: &mut Machine<M, P>)
     requires { Below 500 m.old }
-    ensures { Ends make memory state (controls form.DisableInterrupts) m.old m.new }
+    ensures { Ends P.make M.memory P.state (controls form.DisableInterrupts) m.old m.new }
 {
     m.cpu.ief1 = false;
     m.cpu.ief2 = false;
@@ -81,7 +81,7 @@ fn disable<M: Memory, P: Panel>(m: &mut Machine<M, P>)
 // EI: the next step accepts no maskable line.
 fn enable<M: Memory, P: Panel>(m: &mut Machine<M, P>)
     requires { Below 500 m.old }
-    ensures { Ends make memory state (controls form.EnableInterrupts) m.old m.new }
+    ensures { Ends P.make M.memory P.state (controls form.EnableInterrupts) m.old m.new }
 {
     m.cpu.ief1 = true;
     m.cpu.ief2 = true;

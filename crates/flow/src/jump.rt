@@ -17,7 +17,7 @@ use registers::operand::{Condition, Pair};
 // A jump.
 pub fn jump<M: Memory, P: Panel>(m: &mut Machine<M, P>, form: Jump)
     requires { Below 400 m.old }
-    ensures { Ends make memory state (jumps form) m.old m.new }
+    ensures { Ends P.make M.memory P.state (jumps form) m.old m.new }
 {
     match form {
         Jump::Always => always(m),
@@ -33,7 +33,7 @@ pub fn jump<M: Memory, P: Panel>(m: &mut Machine<M, P>, form: Jump)
 // On by a displacement from the next instruction.
 fn relative<M: Memory, P: Panel>(m: &mut Machine<M, P>, displacement: u8)
     requires { Below 600 m.old }
-    ensures { Ends make memory state (of.relative displacement) m.old m.new }
+    ensures { Ends P.make M.memory P.state (of.relative displacement) m.old m.new }
 {
     m.internal(2);
     m.cpu.pc = displaced(m.cpu.pc, displacement);
@@ -42,7 +42,7 @@ fn relative<M: Memory, P: Panel>(m: &mut Machine<M, P>, displacement: u8)
 // JP mn
 fn always<M: Memory, P: Panel>(m: &mut Machine<M, P>)
     requires { Below 500 m.old }
-    ensures { Ends make memory state (jumps form.Always) m.old m.new }
+    ensures { Ends P.make M.memory P.state (jumps form.Always) m.old m.new }
 {
     m.cpu.pc = m.word_operand();
 }
@@ -50,7 +50,7 @@ fn always<M: Memory, P: Panel>(m: &mut Machine<M, P>)
 // JP f,mn: not taken, it passes its high byte unread.
 fn jump_if<M: Memory, P: Panel>(m: &mut Machine<M, P>, condition: Condition)
     requires { Below 500 m.old }
-    ensures { Ends make memory state (jumps (form.If condition)) m.old m.new }
+    ensures { Ends P.make M.memory P.state (jumps (form.If condition)) m.old m.new }
 {
     let low = m.operand();
     if holds(condition, m.cpu.main.f) {
@@ -64,7 +64,7 @@ fn jump_if<M: Memory, P: Panel>(m: &mut Machine<M, P>, condition: Condition)
 // JR e
 fn jump_relative<M: Memory, P: Panel>(m: &mut Machine<M, P>)
     requires { Below 500 m.old }
-    ensures { Ends make memory state (jumps form.Relative) m.old m.new }
+    ensures { Ends P.make M.memory P.state (jumps form.Relative) m.old m.new }
 {
     let displacement = m.operand();
     relative(m, displacement);
@@ -73,7 +73,7 @@ fn jump_relative<M: Memory, P: Panel>(m: &mut Machine<M, P>)
 // JR NZ,e, JR Z,e, JR NC,e and JR C,e
 fn relative_if<M: Memory, P: Panel>(m: &mut Machine<M, P>, condition: Condition)
     requires { Below 500 m.old }
-    ensures { Ends make memory state (jumps (form.RelativeIf condition)) m.old m.new }
+    ensures { Ends P.make M.memory P.state (jumps (form.RelativeIf condition)) m.old m.new }
 {
     let displacement = m.operand();
     if holds(condition, m.cpu.main.f) {
@@ -84,7 +84,7 @@ fn relative_if<M: Memory, P: Panel>(m: &mut Machine<M, P>, condition: Condition)
 // DJNZ e
 fn count<M: Memory, P: Panel>(m: &mut Machine<M, P>)
     requires { Below 500 m.old }
-    ensures { Ends make memory state (jumps form.Count) m.old m.new }
+    ensures { Ends P.make M.memory P.state (jumps form.Count) m.old m.new }
 {
     m.internal(1);
     m.cpu.main.b = m.cpu.main.b.wrapping_sub(1);

@@ -1,7 +1,8 @@
 // The stack, and exchanges, behind their opcode bytes.
 ghost use Rattle.instructions.specs.declared.group.exchange.Exchange.TheVariants as form;
 ghost use Rattle.machine.specs.Machines.{Below, Ends, Gives, got};
-ghost use Rattle.processor.specs.Exchange.{top_exchanged, exchanges};
+ghost use Rattle.loads.specs.Stack.{top_exchanged};
+ghost use Rattle.processor.specs.Exchange.{exchanges};
 
 use instructions::group::exchange::Exchange;
 use machine::state::Machine;
@@ -15,7 +16,7 @@ use registers::registers::RegisterSet;
 // An exchange, or the stack.
 pub fn exchange<M: Memory, P: Panel>(m: &mut Machine<M, P>, form: Exchange)
     requires { Below 400 m.old }
-    ensures { Ends make memory state (exchanges form) m.old m.new }
+    ensures { Ends P.make M.memory P.state (exchanges form) m.old m.new }
 {
     match form {
         Exchange::Push(from) => push(m, from),
@@ -33,7 +34,7 @@ pub fn exchange<M: Memory, P: Panel>(m: &mut Machine<M, P>, form: Exchange)
 // PUSH zz
 fn push<M: Memory, P: Panel>(m: &mut Machine<M, P>, from: StackPair)
     requires { Below 500 m.old }
-    ensures { Ends make memory state (exchanges (form.Push from)) m.old m.new }
+    ensures { Ends P.make M.memory P.state (exchanges (form.Push from)) m.old m.new }
 {
     m.internal(2);
     let value = stack_pair(&m.cpu, from);
@@ -43,7 +44,7 @@ fn push<M: Memory, P: Panel>(m: &mut Machine<M, P>, from: StackPair)
 // PUSH IX
 fn push_index<M: Memory, P: Panel>(m: &mut Machine<M, P>, from: Index)
     requires { Below 500 m.old }
-    ensures { Ends make memory state (exchanges (form.PushIndex from)) m.old m.new }
+    ensures { Ends P.make M.memory P.state (exchanges (form.PushIndex from)) m.old m.new }
 {
     m.internal(2);
     let value = index(&m.cpu, from);
@@ -53,7 +54,7 @@ fn push_index<M: Memory, P: Panel>(m: &mut Machine<M, P>, from: Index)
 // POP zz
 fn pop<M: Memory, P: Panel>(m: &mut Machine<M, P>, to: StackPair)
     requires { Below 500 m.old }
-    ensures { Ends make memory state (exchanges (form.Pop to)) m.old m.new }
+    ensures { Ends P.make M.memory P.state (exchanges (form.Pop to)) m.old m.new }
 {
     let value = m.pop();
     set_stack_pair(&mut m.cpu, to, value);
@@ -62,7 +63,7 @@ fn pop<M: Memory, P: Panel>(m: &mut Machine<M, P>, to: StackPair)
 // POP IX
 fn pop_index<M: Memory, P: Panel>(m: &mut Machine<M, P>, to: Index)
     requires { Below 500 m.old }
-    ensures { Ends make memory state (exchanges (form.PopIndex to)) m.old m.new }
+    ensures { Ends P.make M.memory P.state (exchanges (form.PopIndex to)) m.old m.new }
 {
     let value = m.pop();
     set_index(&mut m.cpu, to, value);
@@ -71,7 +72,7 @@ fn pop_index<M: Memory, P: Panel>(m: &mut Machine<M, P>, to: Index)
 // EX AF,AF'
 fn af_alternate<M: Memory, P: Panel>(m: &mut Machine<M, P>)
     requires { Below 500 m.old }
-    ensures { Ends make memory state (exchanges form.AfAlternate) m.old m.new }
+    ensures { Ends P.make M.memory P.state (exchanges form.AfAlternate) m.old m.new }
 {
     m.internal(1);
     let RegisterSet { a, f, .. } = m.cpu.main;
@@ -90,7 +91,7 @@ fn af_alternate<M: Memory, P: Panel>(m: &mut Machine<M, P>)
 // EX DE,HL
 fn de_hl<M: Memory, P: Panel>(m: &mut Machine<M, P>)
     requires { Below 500 m.old }
-    ensures { Ends make memory state (exchanges form.DeHl) m.old m.new }
+    ensures { Ends P.make M.memory P.state (exchanges form.DeHl) m.old m.new }
 {
     let de = pair(&m.cpu, Pair::De);
     let hl = pair(&m.cpu, Pair::Hl);
@@ -101,7 +102,7 @@ fn de_hl<M: Memory, P: Panel>(m: &mut Machine<M, P>)
 // EXX
 fn alternates<M: Memory, P: Panel>(m: &mut Machine<M, P>)
     requires { Below 500 m.old }
-    ensures { Ends make memory state (exchanges form.Alternates) m.old m.new }
+    ensures { Ends P.make M.memory P.state (exchanges form.Alternates) m.old m.new }
 {
     let main = m.cpu.main;
     let alternate = m.cpu.alternate;
@@ -120,7 +121,7 @@ fn alternates<M: Memory, P: Panel>(m: &mut Machine<M, P>)
 // The word on top of the stack, and another in its place: its high byte is written first.
 fn exchange_top<M: Memory, P: Panel>(m: &mut Machine<M, P>, value: u16) -> u16
     requires { Below 600 m.old }
-    ensures { Gives {n = 2} make memory state (λ p. top_exchanged value p (λ old. got old p)) m.old result m.new }
+    ensures { Gives {n = 2} P.make M.memory P.state (λ p. top_exchanged value p (λ old. got old p)) m.old result m.new }
 {
     let [low, high] = value.to_le_bytes();
     let sp = m.cpu.sp;
@@ -134,7 +135,7 @@ fn exchange_top<M: Memory, P: Panel>(m: &mut Machine<M, P>, value: u16) -> u16
 // EX (SP),HL
 fn stack_hl<M: Memory, P: Panel>(m: &mut Machine<M, P>)
     requires { Below 500 m.old }
-    ensures { Ends make memory state (exchanges form.StackHl) m.old m.new }
+    ensures { Ends P.make M.memory P.state (exchanges form.StackHl) m.old m.new }
 {
     let value = pair(&m.cpu, Pair::Hl);
     let old = exchange_top(m, value);
@@ -144,7 +145,7 @@ fn stack_hl<M: Memory, P: Panel>(m: &mut Machine<M, P>)
 // EX (SP),IX
 fn stack_index<M: Memory, P: Panel>(m: &mut Machine<M, P>, name: Index)
     requires { Below 500 m.old }
-    ensures { Ends make memory state (exchanges (form.StackIndex name)) m.old m.new }
+    ensures { Ends P.make M.memory P.state (exchanges (form.StackIndex name)) m.old m.new }
 {
     let value = index(&m.cpu, name);
     let old = exchange_top(m, value);

@@ -16,7 +16,7 @@ use registers::operand::{Index, Pair, Pointer, Register};
 // A load. Two opcodes load HL from an address, and two store it; they differ only in what was fetched before.
 pub fn load<M: Memory, P: Panel>(m: &mut Machine<M, P>, form: Load)
     requires { Below 400 m.old }
-    ensures { Ends make memory state (loads form) m.old m.new }
+    ensures { Ends P.make M.memory P.state (loads form) m.old m.new }
 {
     match form {
         Load::RegisterRegister(to, from) => register_register(m, to, from),
@@ -51,7 +51,7 @@ pub fn load<M: Memory, P: Panel>(m: &mut Machine<M, P>, form: Load)
 // LD r,r'
 fn register_register<M: Memory, P: Panel>(m: &mut Machine<M, P>, to: Register, from: Register)
     requires { Below 500 m.old }
-    ensures { Ends make memory state (loads (form.RegisterRegister to from)) m.old m.new }
+    ensures { Ends P.make M.memory P.state (loads (form.RegisterRegister to from)) m.old m.new }
 {
     m.internal(1);
     let value = byte(&m.cpu, from);
@@ -61,7 +61,7 @@ fn register_register<M: Memory, P: Panel>(m: &mut Machine<M, P>, to: Register, f
 // LD r,n
 fn register_byte<M: Memory, P: Panel>(m: &mut Machine<M, P>, to: Register)
     requires { Below 500 m.old }
-    ensures { Ends make memory state (loads (form.RegisterByte to)) m.old m.new }
+    ensures { Ends P.make M.memory P.state (loads (form.RegisterByte to)) m.old m.new }
 {
     let value = m.operand();
     set_byte(&mut m.cpu, to, value);
@@ -70,7 +70,7 @@ fn register_byte<M: Memory, P: Panel>(m: &mut Machine<M, P>, to: Register)
 // LD r,(HL)
 fn register_memory<M: Memory, P: Panel>(m: &mut Machine<M, P>, to: Register)
     requires { Below 500 m.old }
-    ensures { Ends make memory state (loads (form.RegisterMemory to)) m.old m.new }
+    ensures { Ends P.make M.memory P.state (loads (form.RegisterMemory to)) m.old m.new }
 {
     let at = pair(&m.cpu, Pair::Hl);
     let value = m.read(at);
@@ -80,7 +80,7 @@ fn register_memory<M: Memory, P: Panel>(m: &mut Machine<M, P>, to: Register)
 // LD r,(IX+d)
 fn register_indexed<M: Memory, P: Panel>(m: &mut Machine<M, P>, to: Register, from: Index)
     requires { Below 500 m.old }
-    ensures { Ends make memory state (loads (form.RegisterIndexed to from)) m.old m.new }
+    ensures { Ends P.make M.memory P.state (loads (form.RegisterIndexed to from)) m.old m.new }
 {
     let at = m.indexed(from);
     m.internal(2);
@@ -91,7 +91,7 @@ fn register_indexed<M: Memory, P: Panel>(m: &mut Machine<M, P>, to: Register, fr
 // LD (HL),r
 fn memory_register<M: Memory, P: Panel>(m: &mut Machine<M, P>, from: Register)
     requires { Below 500 m.old }
-    ensures { Ends make memory state (loads (form.MemoryRegister from)) m.old m.new }
+    ensures { Ends P.make M.memory P.state (loads (form.MemoryRegister from)) m.old m.new }
 {
     m.internal(1);
     let at = pair(&m.cpu, Pair::Hl);
@@ -102,7 +102,7 @@ fn memory_register<M: Memory, P: Panel>(m: &mut Machine<M, P>, from: Register)
 // LD (HL),n
 fn memory_byte<M: Memory, P: Panel>(m: &mut Machine<M, P>)
     requires { Below 500 m.old }
-    ensures { Ends make memory state (loads form.MemoryByte) m.old m.new }
+    ensures { Ends P.make M.memory P.state (loads form.MemoryByte) m.old m.new }
 {
     let value = m.operand();
     let at = pair(&m.cpu, Pair::Hl);
@@ -112,7 +112,7 @@ fn memory_byte<M: Memory, P: Panel>(m: &mut Machine<M, P>)
 // LD (IX+d),r
 fn indexed_register<M: Memory, P: Panel>(m: &mut Machine<M, P>, to: Index, from: Register)
     requires { Below 500 m.old }
-    ensures { Ends make memory state (loads (form.IndexedRegister to from)) m.old m.new }
+    ensures { Ends P.make M.memory P.state (loads (form.IndexedRegister to from)) m.old m.new }
 {
     let at = m.indexed(to);
     m.internal(3);
@@ -123,7 +123,7 @@ fn indexed_register<M: Memory, P: Panel>(m: &mut Machine<M, P>, to: Index, from:
 // LD (IX+d),n
 fn indexed_byte<M: Memory, P: Panel>(m: &mut Machine<M, P>, to: Index)
     requires { Below 500 m.old }
-    ensures { Ends make memory state (loads (form.IndexedByte to)) m.old m.new }
+    ensures { Ends P.make M.memory P.state (loads (form.IndexedByte to)) m.old m.new }
 {
     let at = m.indexed(to);
     let value = m.operand();
@@ -133,7 +133,7 @@ fn indexed_byte<M: Memory, P: Panel>(m: &mut Machine<M, P>, to: Index)
 // LD A,(BC) and LD A,(DE)
 fn accumulator_pointer<M: Memory, P: Panel>(m: &mut Machine<M, P>, from: Pointer)
     requires { Below 500 m.old }
-    ensures { Ends make memory state (loads (form.AccumulatorPointer from)) m.old m.new }
+    ensures { Ends P.make M.memory P.state (loads (form.AccumulatorPointer from)) m.old m.new }
 {
     let at = pointer(&m.cpu, from);
     m.cpu.main.a = m.read(at);
@@ -142,7 +142,7 @@ fn accumulator_pointer<M: Memory, P: Panel>(m: &mut Machine<M, P>, from: Pointer
 // LD (BC),A and LD (DE),A
 fn pointer_accumulator<M: Memory, P: Panel>(m: &mut Machine<M, P>, to: Pointer)
     requires { Below 500 m.old }
-    ensures { Ends make memory state (loads (form.PointerAccumulator to)) m.old m.new }
+    ensures { Ends P.make M.memory P.state (loads (form.PointerAccumulator to)) m.old m.new }
 {
     m.internal(1);
     let at = pointer(&m.cpu, to);
@@ -152,7 +152,7 @@ fn pointer_accumulator<M: Memory, P: Panel>(m: &mut Machine<M, P>, to: Pointer)
 // LD A,(mn)
 fn accumulator_address<M: Memory, P: Panel>(m: &mut Machine<M, P>)
     requires { Below 500 m.old }
-    ensures { Ends make memory state (loads form.AccumulatorAddress) m.old m.new }
+    ensures { Ends P.make M.memory P.state (loads form.AccumulatorAddress) m.old m.new }
 {
     let at = m.word_operand();
     m.cpu.main.a = m.read(at);
@@ -161,7 +161,7 @@ fn accumulator_address<M: Memory, P: Panel>(m: &mut Machine<M, P>)
 // LD (mn),A
 fn address_accumulator<M: Memory, P: Panel>(m: &mut Machine<M, P>)
     requires { Below 500 m.old }
-    ensures { Ends make memory state (loads form.AddressAccumulator) m.old m.new }
+    ensures { Ends P.make M.memory P.state (loads form.AddressAccumulator) m.old m.new }
 {
     let at = m.word_operand();
     m.internal(1);
@@ -171,7 +171,7 @@ fn address_accumulator<M: Memory, P: Panel>(m: &mut Machine<M, P>)
 // LD A,I
 fn accumulator_i<M: Memory, P: Panel>(m: &mut Machine<M, P>)
     requires { Below 500 m.old }
-    ensures { Ends make memory state (loads form.AccumulatorI) m.old m.new }
+    ensures { Ends P.make M.memory P.state (loads form.AccumulatorI) m.old m.new }
 {
     let (a, flags) = shown(m.cpu.i, m.cpu.ief2, m.cpu.main.f);
     m.cpu.main.a = a;
@@ -181,7 +181,7 @@ fn accumulator_i<M: Memory, P: Panel>(m: &mut Machine<M, P>)
 // LD A,R
 fn accumulator_r<M: Memory, P: Panel>(m: &mut Machine<M, P>)
     requires { Below 500 m.old }
-    ensures { Ends make memory state (loads form.AccumulatorR) m.old m.new }
+    ensures { Ends P.make M.memory P.state (loads form.AccumulatorR) m.old m.new }
 {
     let (a, flags) = shown(m.cpu.r, m.cpu.ief2, m.cpu.main.f);
     m.cpu.main.a = a;
@@ -191,7 +191,7 @@ fn accumulator_r<M: Memory, P: Panel>(m: &mut Machine<M, P>)
 // LD dd,mn
 fn pair_word<M: Memory, P: Panel>(m: &mut Machine<M, P>, to: Pair)
     requires { Below 500 m.old }
-    ensures { Ends make memory state (loads (form.PairWord to)) m.old m.new }
+    ensures { Ends P.make M.memory P.state (loads (form.PairWord to)) m.old m.new }
 {
     let value = m.word_operand();
     set_pair(&mut m.cpu, to, value);
@@ -200,7 +200,7 @@ fn pair_word<M: Memory, P: Panel>(m: &mut Machine<M, P>, to: Pair)
 // LD IX,mn
 fn index_word<M: Memory, P: Panel>(m: &mut Machine<M, P>, to: Index)
     requires { Below 500 m.old }
-    ensures { Ends make memory state (loads (form.IndexWord to)) m.old m.new }
+    ensures { Ends P.make M.memory P.state (loads (form.IndexWord to)) m.old m.new }
 {
     let value = m.word_operand();
     set_index(&mut m.cpu, to, value);
@@ -209,7 +209,7 @@ fn index_word<M: Memory, P: Panel>(m: &mut Machine<M, P>, to: Index)
 // LD dd,(mn)
 fn pair_address<M: Memory, P: Panel>(m: &mut Machine<M, P>, to: Pair)
     requires { Below 500 m.old }
-    ensures { Ends make memory state (loads (form.PairAddress to)) m.old m.new }
+    ensures { Ends P.make M.memory P.state (loads (form.PairAddress to)) m.old m.new }
 {
     let at = m.word_operand();
     let value = m.read_word(at);
@@ -219,7 +219,7 @@ fn pair_address<M: Memory, P: Panel>(m: &mut Machine<M, P>, to: Pair)
 // LD IX,(mn)
 fn index_address<M: Memory, P: Panel>(m: &mut Machine<M, P>, to: Index)
     requires { Below 500 m.old }
-    ensures { Ends make memory state (loads (form.IndexAddress to)) m.old m.new }
+    ensures { Ends P.make M.memory P.state (loads (form.IndexAddress to)) m.old m.new }
 {
     let at = m.word_operand();
     let value = m.read_word(at);
@@ -229,7 +229,7 @@ fn index_address<M: Memory, P: Panel>(m: &mut Machine<M, P>, to: Index)
 // LD (mn),ss
 fn address_pair<M: Memory, P: Panel>(m: &mut Machine<M, P>, from: Pair)
     requires { Below 500 m.old }
-    ensures { Ends make memory state (loads (form.AddressPair from)) m.old m.new }
+    ensures { Ends P.make M.memory P.state (loads (form.AddressPair from)) m.old m.new }
 {
     let at = m.word_operand();
     m.internal(1);
@@ -240,7 +240,7 @@ fn address_pair<M: Memory, P: Panel>(m: &mut Machine<M, P>, from: Pair)
 // LD (mn),IX
 fn address_index<M: Memory, P: Panel>(m: &mut Machine<M, P>, from: Index)
     requires { Below 500 m.old }
-    ensures { Ends make memory state (loads (form.AddressIndex from)) m.old m.new }
+    ensures { Ends P.make M.memory P.state (loads (form.AddressIndex from)) m.old m.new }
 {
     let at = m.word_operand();
     m.internal(1);
@@ -251,7 +251,7 @@ fn address_index<M: Memory, P: Panel>(m: &mut Machine<M, P>, from: Index)
 // LD SP,HL
 fn sp_hl<M: Memory, P: Panel>(m: &mut Machine<M, P>)
     requires { Below 500 m.old }
-    ensures { Ends make memory state (loads form.SpHl) m.old m.new }
+    ensures { Ends P.make M.memory P.state (loads form.SpHl) m.old m.new }
 {
     m.internal(1);
     m.cpu.sp = pair(&m.cpu, Pair::Hl);
@@ -260,7 +260,7 @@ fn sp_hl<M: Memory, P: Panel>(m: &mut Machine<M, P>)
 // LD SP,IX
 fn sp_index<M: Memory, P: Panel>(m: &mut Machine<M, P>, from: Index)
     requires { Below 500 m.old }
-    ensures { Ends make memory state (loads (form.SpIndex from)) m.old m.new }
+    ensures { Ends P.make M.memory P.state (loads (form.SpIndex from)) m.old m.new }
 {
     m.internal(1);
     m.cpu.sp = index(&m.cpu, from);

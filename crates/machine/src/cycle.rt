@@ -15,7 +15,7 @@ impl<M: Memory, P: Panel> Machine<M, P> {
     pub fn internal(&mut self, states: u32)
         requires below { Below 2000 self.old }
         requires states_bound { states < 100 }
-        ensures { Ends {n = 0} make memory state (λ p. tree.internal states (tree.done p)) self.old self.new }
+        ensures { Ends {n = 0} P.make M.memory P.state (λ p. tree.internal states (tree.done p)) self.old self.new }
     {
         self.spent.cycles = self.spent.cycles + 1;
         self.spent.states = self.spent.states + states;
@@ -24,7 +24,7 @@ impl<M: Memory, P: Panel> Machine<M, P> {
     // A byte of data.
     pub fn read(&mut self, at: u16) -> u8
         requires { Below 2000 self.old }
-        ensures { Gives {n = 0} make memory state (λ p. tree.read at (λ b. got b p)) self.old result self.new }
+        ensures { Gives {n = 0} P.make M.memory P.state (λ p. tree.read at (λ b. got b p)) self.old result self.new }
     {
         self.internal(3);
         // a translated address is never denied
@@ -36,7 +36,7 @@ impl<M: Memory, P: Panel> Machine<M, P> {
 
     pub fn write(&mut self, at: u16, byte: u8)
         requires { Below 2000 self.old }
-        ensures { Ends {n = 1} make memory state (λ p. tree.write at byte (tree.done p)) self.old self.new }
+        ensures { Ends {n = 1} P.make M.memory P.state (λ p. tree.write at byte (tree.done p)) self.old self.new }
     {
         self.internal(3);
         let _ = self.memory.write(self.window.physical(at), byte);
@@ -45,7 +45,7 @@ impl<M: Memory, P: Panel> Machine<M, P> {
     // The opcode byte at PC, which R counts.
     pub fn opcode(&mut self) -> u8
         requires { Below 2000 self.old }
-        ensures { Gives {n = 0} make memory state (λ p. parts.opcode p got) self.old result self.new }
+        ensures { Gives {n = 0} P.make M.memory P.state (λ p. parts.opcode p got) self.old result self.new }
     {
         self.cpu.r = counted(self.cpu.r);
         self.operand()
@@ -54,7 +54,7 @@ impl<M: Memory, P: Panel> Machine<M, P> {
     // The operand byte at PC.
     pub fn operand(&mut self) -> u8
         requires { Below 2000 self.old }
-        ensures { Gives {n = 0} make memory state (λ p. parts.operand p got) self.old result self.new }
+        ensures { Gives {n = 0} P.make M.memory P.state (λ p. parts.operand p got) self.old result self.new }
     {
         let at = self.cpu.pc;
         self.cpu.pc = at.wrapping_add(1);
@@ -65,7 +65,7 @@ impl<M: Memory, P: Panel> Machine<M, P> {
     pub fn acknowledge(&mut self, line: Line, states: u32)
         requires below { Below 2000 self.old }
         requires states_bound { states < 100 }
-        ensures { Ends {n = 0} make memory state (λ p. tree.acknowledge line states (tree.done p)) self.old self.new }
+        ensures { Ends {n = 0} P.make M.memory P.state (λ p. tree.acknowledge line states (tree.done p)) self.old self.new }
     {
         self.internal(states);
         self.panel.acknowledge(line);

@@ -10,7 +10,7 @@ use panel::Panel;
 impl<M: Memory, P: Panel> Machine<M, P> {
     pub fn input(&mut self, port: u16) -> u8
         requires { Below 2000 self.old }
-        ensures { Gives {n = 0} make memory state (λ p. parts.input port p (λ b. got b p)) self.old result self.new }
+        ensures { Gives {n = 0} P.make M.memory P.state (λ p. parts.input port p (λ b. got b p)) self.old result self.new }
     {
         self.internal(3);
         if self.cpu.owns(port) {
@@ -22,7 +22,7 @@ impl<M: Memory, P: Panel> Machine<M, P> {
 
     pub fn output(&mut self, port: u16, byte: u8)
         requires { Below 2000 self.old }
-        ensures { Ends {n = 0} make memory state (λ p. parts.output port byte p tree.done) self.old self.new }
+        ensures { Ends {n = 0} P.make M.memory P.state (λ p. parts.output port byte p tree.done) self.old self.new }
     {
         self.internal(3);
         if self.cpu.owns(port) {

@@ -14,7 +14,7 @@ impl<M: Memory, P: Panel> Machine<M, P> {
     // Two operand bytes, low first.
     pub fn word_operand(&mut self) -> u16
         requires { Below 1000 self.old }
-        ensures { Gives {n = 0} make memory state (λ p. parts.word_operand p got) self.old result self.new }
+        ensures { Gives {n = 0} P.make M.memory P.state (λ p. parts.word_operand p got) self.old result self.new }
     {
         let low = self.operand();
         let high = self.operand();
@@ -24,7 +24,7 @@ impl<M: Memory, P: Panel> Machine<M, P> {
     // The address behind a displacement.
     pub fn indexed(&mut self, name: Index) -> u16
         requires { Below 1000 self.old }
-        ensures { Gives {n = 0} make memory state (λ p. parts.indexed name p got) self.old result self.new }
+        ensures { Gives {n = 0} P.make M.memory P.state (λ p. parts.indexed name p got) self.old result self.new }
     {
         let displacement = self.operand();
         displaced(index(&self.cpu, name), displacement)
@@ -33,7 +33,7 @@ impl<M: Memory, P: Panel> Machine<M, P> {
     // The low byte is read, or written, first.
     pub fn read_word(&mut self, at: u16) -> u16
         requires { Below 1000 self.old }
-        ensures { Gives {n = 0} make memory state (λ p. parts.read_word at (λ v. got v p)) self.old result self.new }
+        ensures { Gives {n = 0} P.make M.memory P.state (λ p. parts.read_word at (λ v. got v p)) self.old result self.new }
     {
         let low = self.read(at);
         let high = self.read(at.wrapping_add(1));
@@ -42,7 +42,7 @@ impl<M: Memory, P: Panel> Machine<M, P> {
 
     pub fn write_word(&mut self, at: u16, value: u16)
         requires { Below 1000 self.old }
-        ensures { Ends {n = 2} make memory state (λ p. parts.write_word at value (tree.done p)) self.old self.new }
+        ensures { Ends {n = 2} P.make M.memory P.state (λ p. parts.write_word at value (tree.done p)) self.old self.new }
     {
         let [low, high] = value.to_le_bytes();
         self.write(at, low);
@@ -52,7 +52,7 @@ impl<M: Memory, P: Panel> Machine<M, P> {
     // The stack grows downward: the high byte is pushed first, and the low one popped first.
     pub fn push(&mut self, value: u16)
         requires { Below 1000 self.old }
-        ensures { Ends {n = 2} make memory state (λ p. parts.push value p tree.done) self.old self.new }
+        ensures { Ends {n = 2} P.make M.memory P.state (λ p. parts.push value p tree.done) self.old self.new }
     {
         let [low, high] = value.to_le_bytes();
         let sp = self.cpu.sp;
@@ -63,7 +63,7 @@ impl<M: Memory, P: Panel> Machine<M, P> {
 
     pub fn pop(&mut self) -> u16
         requires { Below 1000 self.old }
-        ensures { Gives {n = 0} make memory state (λ p. parts.pop p got) self.old result self.new }
+        ensures { Gives {n = 0} P.make M.memory P.state (λ p. parts.pop p got) self.old result self.new }
     {
         let sp = self.cpu.sp;
         let value = self.read_word(sp);

@@ -1,6 +1,5 @@
 -- To begin again, or not, looks at no memory, so the window that stood as the step began does not matter. Assumes nothing.
-use mathlib.Core.Path.{◌≡◌, refl, ap, ◌∙◌}
-use mathlib.Core.Bool.{Bool, true, false}
+use Rattle.std.proofs.Common.{◌≡◌, refl, ap, ◌∙◌, Bool, true, false}
 use Rattle.panel.specs.Panel.{Make}
 use Rattle.registers.specs.Registers.{Processor}
 use Rattle.cycles.specs.Play.{Began, Played, World, play}

@@ -10,7 +10,7 @@ use panel::Panel;
 // Again, if there is more to do: two states, and PC back at the instruction.
 pub(crate) fn again<M: Memory, P: Panel>(m: &mut Machine<M, P>, more: bool)
     requires { Below 600 m.old }
-    ensures { Ends {n = 0} make memory state (again_if more) m.old m.new }
+    ensures { Ends {n = 0} P.make M.memory P.state (again_if more) m.old m.new }
 {
     if more {
         m.internal(2);
@@ -21,7 +21,7 @@ pub(crate) fn again<M: Memory, P: Panel>(m: &mut Machine<M, P>, more: bool)
 // The OTIM family takes one state at the end, or three and PC back.
 pub(crate) fn again_zero<M: Memory, P: Panel>(m: &mut Machine<M, P>, more: bool)
     requires { Below 600 m.old }
-    ensures { Ends make memory state (again_at_zero more) m.old m.new }
+    ensures { Ends P.make M.memory P.state (again_at_zero more) m.old m.new }
 {
     if more {
         m.internal(3);

@@ -4,6 +4,7 @@ ghost use Rattle.machine.specs.Machines.{Below, Ends, Gives, got};
 ghost use Rattle.processor.specs.Block as of;
 ghost use Rattle.processor.specs.Block.{blocks};
 ghost use Rattle.std.specs.Prelude.{◌≡◌};
+ghost use Rattle.transfers.specs.Compared.{byte_compared};
 
 use crate::again::again;
 use arithmetic::block::{compare, transfer};
@@ -19,7 +20,7 @@ use registers::registers::Registers;
 // A transfer or a comparison.
 pub fn on_block<M: Memory, P: Panel>(m: &mut Machine<M, P>, form: Block)
     requires { Below 400 m.old }
-    ensures { Ends make memory state (blocks form) m.old m.new }
+    ensures { Ends P.make M.memory P.state (blocks form) m.old m.new }
 {
     match form {
         Block::Transfer(way) => transfer_byte(m, way),
@@ -58,7 +59,7 @@ fn matched(cpu: &mut Registers, way: Direction, byte: u8)
 // LDI and LDD
 fn transfer_byte<M: Memory, P: Panel>(m: &mut Machine<M, P>, way: Direction)
     requires { Below 550 m.old }
-    ensures { Ends make memory state (blocks (form.Transfer way)) m.old m.new }
+    ensures { Ends P.make M.memory P.state (blocks (form.Transfer way)) m.old m.new }
 {
     let from = pair(&m.cpu, Pair::Hl);
     let to = pair(&m.cpu, Pair::De);
@@ -70,7 +71,7 @@ fn transfer_byte<M: Memory, P: Panel>(m: &mut Machine<M, P>, way: Direction)
 // LDIR and LDDR
 fn transfer_repeated<M: Memory, P: Panel>(m: &mut Machine<M, P>, way: Direction)
     requires { Below 500 m.old }
-    ensures { Ends make memory state (blocks (form.TransferRepeated way)) m.old m.new }
+    ensures { Ends P.make M.memory P.state (blocks (form.TransferRepeated way)) m.old m.new }
 {
     transfer_byte(m, way);
     let left = pair(&m.cpu, Pair::Bc);
@@ -80,7 +81,7 @@ fn transfer_repeated<M: Memory, P: Panel>(m: &mut Machine<M, P>, way: Direction)
 // A is compared with the byte at (HL), which is answered.
 fn compare_byte<M: Memory, P: Panel>(m: &mut Machine<M, P>, way: Direction) -> u8
     requires { Below 550 m.old }
-    ensures { Gives {n = 0} make memory state (λ p. of.compares way p got) m.old result m.new }
+    ensures { Gives {n = 0} P.make M.memory P.state (λ p. byte_compared way p got) m.old result m.new }
 {
     let from = pair(&m.cpu, Pair::Hl);
     let byte = m.read(from);
@@ -92,7 +93,7 @@ fn compare_byte<M: Memory, P: Panel>(m: &mut Machine<M, P>, way: Direction) -> u
 // CPI and CPD
 fn compare_once<M: Memory, P: Panel>(m: &mut Machine<M, P>, way: Direction)
     requires { Below 500 m.old }
-    ensures { Ends make memory state (blocks (form.Compare way)) m.old m.new }
+    ensures { Ends P.make M.memory P.state (blocks (form.Compare way)) m.old m.new }
 {
     compare_byte(m, way);
 }
@@ -100,7 +101,7 @@ fn compare_once<M: Memory, P: Panel>(m: &mut Machine<M, P>, way: Direction)
 // CPIR and CPDR
 fn compare_repeated<M: Memory, P: Panel>(m: &mut Machine<M, P>, way: Direction)
     requires { Below 500 m.old }
-    ensures { Ends make memory state (blocks (form.CompareRepeated way)) m.old m.new }
+    ensures { Ends P.make M.memory P.state (blocks (form.CompareRepeated way)) m.old m.new }
 {
     let byte = compare_byte(m, way);
     let left = pair(&m.cpu, Pair::Bc);

@@ -26,7 +26,7 @@ use registers::registers::Registers;
 // An input or an output.
 pub fn on_port<M: Memory, P: Panel>(m: &mut Machine<M, P>, form: Port)
     requires { Below 400 m.old }
-    ensures { Ends make memory state (ports form) m.old m.new }
+    ensures { Ends P.make M.memory P.state (ports form) m.old m.new }
 {
     match form {
         Port::InputAccumulator => input_accumulator(m),
@@ -83,7 +83,7 @@ fn take(cpu: &mut Registers, to: Register, byte: u8)
 // IN A,(n)
 fn input_accumulator<M: Memory, P: Panel>(m: &mut Machine<M, P>)
     requires { Below 500 m.old }
-    ensures { Ends make memory state (ports form.InputAccumulator) m.old m.new }
+    ensures { Ends P.make M.memory P.state (ports form.InputAccumulator) m.old m.new }
 {
     let low = m.operand();
     let port = u16::from_be_bytes([m.cpu.main.a, low]);
@@ -93,7 +93,7 @@ fn input_accumulator<M: Memory, P: Panel>(m: &mut Machine<M, P>)
 // IN r,(C)
 fn input<M: Memory, P: Panel>(m: &mut Machine<M, P>, to: Register)
     requires { Below 500 m.old }
-    ensures { Ends make memory state (ports (form.Input to)) m.old m.new }
+    ensures { Ends P.make M.memory P.state (ports (form.Input to)) m.old m.new }
 {
     let port = pair(&m.cpu, Pair::Bc);
     let byte = m.input(port);
@@ -103,7 +103,7 @@ fn input<M: Memory, P: Panel>(m: &mut Machine<M, P>, to: Register)
 // IN0 r,(n)
 fn input_zero<M: Memory, P: Panel>(m: &mut Machine<M, P>, to: Register)
     requires { Below 500 m.old }
-    ensures { Ends make memory state (ports (form.InputZero to)) m.old m.new }
+    ensures { Ends P.make M.memory P.state (ports (form.InputZero to)) m.old m.new }
 {
     let port = u16::from(m.operand());
     let byte = m.input(port);
@@ -113,7 +113,7 @@ fn input_zero<M: Memory, P: Panel>(m: &mut Machine<M, P>, to: Register)
 // OUT (n),A
 fn output_accumulator<M: Memory, P: Panel>(m: &mut Machine<M, P>)
     requires { Below 500 m.old }
-    ensures { Ends make memory state (ports form.OutputAccumulator) m.old m.new }
+    ensures { Ends P.make M.memory P.state (ports form.OutputAccumulator) m.old m.new }
 {
     let low = m.operand();
     m.internal(1);
@@ -124,7 +124,7 @@ fn output_accumulator<M: Memory, P: Panel>(m: &mut Machine<M, P>)
 // OUT (C),r
 fn output<M: Memory, P: Panel>(m: &mut Machine<M, P>, from: Register)
     requires { Below 500 m.old }
-    ensures { Ends make memory state (ports (form.Output from)) m.old m.new }
+    ensures { Ends P.make M.memory P.state (ports (form.Output from)) m.old m.new }
 {
     m.internal(1);
     let port = pair(&m.cpu, Pair::Bc);
@@ -135,7 +135,7 @@ fn output<M: Memory, P: Panel>(m: &mut Machine<M, P>, from: Register)
 // OUT0 (n),r
 fn output_zero<M: Memory, P: Panel>(m: &mut Machine<M, P>, from: Register)
     requires { Below 500 m.old }
-    ensures { Ends make memory state (ports (form.OutputZero from)) m.old m.new }
+    ensures { Ends P.make M.memory P.state (ports (form.OutputZero from)) m.old m.new }
 {
     let port = u16::from(m.operand());
     m.internal(1);
@@ -146,7 +146,7 @@ fn output_zero<M: Memory, P: Panel>(m: &mut Machine<M, P>, from: Register)
 // TSTIO n
 fn test<M: Memory, P: Panel>(m: &mut Machine<M, P>)
     requires { Below 500 m.old }
-    ensures { Ends make memory state (ports form.Test) m.old m.new }
+    ensures { Ends P.make M.memory P.state (ports form.Test) m.old m.new }
 {
     let mask = m.operand();
     let port = u16::from(m.cpu.main.c);
@@ -158,7 +158,7 @@ fn test<M: Memory, P: Panel>(m: &mut Machine<M, P>)
 // INI and IND
 fn input_block<M: Memory, P: Panel>(m: &mut Machine<M, P>, way: Direction)
     requires { Below 550 m.old }
-    ensures { Ends make memory state (ports (form.InputBlock way)) m.old m.new }
+    ensures { Ends P.make M.memory P.state (ports (form.InputBlock way)) m.old m.new }
 {
     let port = pair(&m.cpu, Pair::Bc);
     let at = pair(&m.cpu, Pair::Hl);
@@ -170,7 +170,7 @@ fn input_block<M: Memory, P: Panel>(m: &mut Machine<M, P>, way: Direction)
 // INIR and INDR
 fn input_repeated<M: Memory, P: Panel>(m: &mut Machine<M, P>, way: Direction)
     requires { Below 500 m.old }
-    ensures { Ends make memory state (ports (form.InputRepeated way)) m.old m.new }
+    ensures { Ends P.make M.memory P.state (ports (form.InputRepeated way)) m.old m.new }
 {
     input_block(m, way);
     again(m, m.cpu.main.b != 0);
@@ -179,7 +179,7 @@ fn input_repeated<M: Memory, P: Panel>(m: &mut Machine<M, P>, way: Direction)
 // The byte at (HL).
 fn from_hl<M: Memory, P: Panel>(m: &mut Machine<M, P>) -> u8
     requires { Below 600 m.old }
-    ensures { Gives {n = 0} make memory state (λ p. tree.read (hl p.cpu) (λ b. got b p)) m.old result m.new }
+    ensures { Gives {n = 0} P.make M.memory P.state (λ p. tree.read (hl p.cpu) (λ b. got b p)) m.old result m.new }
 {
     let at = pair(&m.cpu, Pair::Hl);
     m.read(at)
@@ -188,7 +188,7 @@ fn from_hl<M: Memory, P: Panel>(m: &mut Machine<M, P>) -> u8
 // A byte goes to port (BC), and is counted.
 fn send<M: Memory, P: Panel>(m: &mut Machine<M, P>, way: Direction, byte: u8)
     requires { Below 600 m.old }
-    ensures { Ends {n = 0} make memory state (λ p. output (bc p.cpu) byte p (λ q. tree.done (on_cpu (of.counted_down rule.port way byte) q))) m.old m.new }
+    ensures { Ends {n = 0} P.make M.memory P.state (λ p. output (bc p.cpu) byte p (λ q. tree.done (on_cpu (of.counted_down rule.port way byte) q))) m.old m.new }
 {
     let port = pair(&m.cpu, Pair::Bc);
     m.output(port, byte);
@@ -198,7 +198,7 @@ fn send<M: Memory, P: Panel>(m: &mut Machine<M, P>, way: Direction, byte: u8)
 // OUTI and OUTD
 fn output_block<M: Memory, P: Panel>(m: &mut Machine<M, P>, way: Direction)
     requires { Below 550 m.old }
-    ensures { Ends make memory state (ports (form.OutputBlock way)) m.old m.new }
+    ensures { Ends P.make M.memory P.state (ports (form.OutputBlock way)) m.old m.new }
 {
     let byte = from_hl(m);
     send(m, way, byte);
@@ -207,7 +207,7 @@ fn output_block<M: Memory, P: Panel>(m: &mut Machine<M, P>, way: Direction)
 // OTIR and OTDR
 fn output_repeated<M: Memory, P: Panel>(m: &mut Machine<M, P>, way: Direction)
     requires { Below 500 m.old }
-    ensures { Ends make memory state (ports (form.OutputRepeated way)) m.old m.new }
+    ensures { Ends P.make M.memory P.state (ports (form.OutputRepeated way)) m.old m.new }
 {
     output_block(m, way);
     again(m, m.cpu.main.b != 0);
@@ -216,7 +216,7 @@ fn output_repeated<M: Memory, P: Panel>(m: &mut Machine<M, P>, way: Direction)
 // A byte from (HL) to port C with upper half 0, both going on.
 fn output_next<M: Memory, P: Panel>(m: &mut Machine<M, P>, way: Direction)
     requires { Below 550 m.old }
-    ensures { Ends make memory state (λ p. of.outputs_zero way p tree.done) m.old m.new }
+    ensures { Ends P.make M.memory P.state (λ p. of.outputs_zero way p tree.done) m.old m.new }
 {
     m.internal(1);
     let at = pair(&m.cpu, Pair::Hl);
@@ -229,7 +229,7 @@ fn output_next<M: Memory, P: Panel>(m: &mut Machine<M, P>, way: Direction)
 // OTIM and OTDM
 fn output_zero_block<M: Memory, P: Panel>(m: &mut Machine<M, P>, way: Direction)
     requires { Below 500 m.old }
-    ensures { Ends make memory state (ports (form.OutputZeroBlock way)) m.old m.new }
+    ensures { Ends P.make M.memory P.state (ports (form.OutputZeroBlock way)) m.old m.new }
 {
     output_next(m, way);
     m.internal(1);
@@ -238,7 +238,7 @@ fn output_zero_block<M: Memory, P: Panel>(m: &mut Machine<M, P>, way: Direction)
 // OTIMR and OTDMR
 fn output_zero_repeated<M: Memory, P: Panel>(m: &mut Machine<M, P>, way: Direction)
     requires { Below 500 m.old }
-    ensures { Ends make memory state (ports (form.OutputZeroRepeated way)) m.old m.new }
+    ensures { Ends P.make M.memory P.state (ports (form.OutputZeroRepeated way)) m.old m.new }
 {
     output_next(m, way);
     again_zero(m, m.cpu.main.b != 0);

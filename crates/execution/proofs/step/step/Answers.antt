@@ -1,5 +1,3 @@
-use Rattle.std.proofs.Common.{◌≡◌}
-use Rattle.processor.specs.Step.{Turn, step}
 use Rattle.execution.specs.Steps.{model}
 use Rattle.execution.proofs.Promised as promised
 use Rattle.execution.proofs.step.step.Goals as goal

@@ -1,4 +1,4 @@
-use mathlib.Core.Path.{ap, ◌∙◌}
+use Rattle.std.proofs.Common.{ap, ◌∙◌}
 use Rattle.arithmetic.specs.Block.{port}
 use Rattle.machine.specs.Machines.{Got, began}
 use Rattle.registers.specs.Operands.{bc}

@@ -23,7 +23,7 @@ use registers::registers::Registers;
 // A calculation.
 pub fn calculate<M: Memory, P: Panel>(m: &mut Machine<M, P>, form: Arithmetic)
     requires { Below 400 m.old }
-    ensures { Ends make memory state (calculates form) m.old m.new }
+    ensures { Ends P.make M.memory P.state (calculates form) m.old m.new }
 {
     match form {
         Arithmetic::Register(operation, from) => with_register(m, operation, from),
@@ -85,7 +85,7 @@ fn addend(cpu: &Registers, name: Addend, to: Index) -> u16
 // ADD A,r and the seven others
 fn with_register<M: Memory, P: Panel>(m: &mut Machine<M, P>, operation: Operation, from: Register)
     requires { Below 500 m.old }
-    ensures { Ends make memory state (calculates (form.Register operation from)) m.old m.new }
+    ensures { Ends P.make M.memory P.state (calculates (form.Register operation from)) m.old m.new }
 {
     m.internal(1);
     let value = byte(&m.cpu, from);
@@ -95,7 +95,7 @@ fn with_register<M: Memory, P: Panel>(m: &mut Machine<M, P>, operation: Operatio
 // ADD A,n
 fn with_byte<M: Memory, P: Panel>(m: &mut Machine<M, P>, operation: Operation)
     requires { Below 500 m.old }
-    ensures { Ends make memory state (calculates (form.Byte operation)) m.old m.new }
+    ensures { Ends P.make M.memory P.state (calculates (form.Byte operation)) m.old m.new }
 {
     let value = m.operand();
     operate(&mut m.cpu, operation, value);
@@ -104,7 +104,7 @@ fn with_byte<M: Memory, P: Panel>(m: &mut Machine<M, P>, operation: Operation)
 // ADD A,(HL)
 fn with_memory<M: Memory, P: Panel>(m: &mut Machine<M, P>, operation: Operation)
     requires { Below 500 m.old }
-    ensures { Ends make memory state (calculates (form.Memory operation)) m.old m.new }
+    ensures { Ends P.make M.memory P.state (calculates (form.Memory operation)) m.old m.new }
 {
     let at = pair(&m.cpu, Pair::Hl);
     let value = m.read(at);
@@ -114,7 +114,7 @@ fn with_memory<M: Memory, P: Panel>(m: &mut Machine<M, P>, operation: Operation)
 // ADD A,(IX+d)
 fn with_indexed<M: Memory, P: Panel>(m: &mut Machine<M, P>, operation: Operation, from: Index)
     requires { Below 500 m.old }
-    ensures { Ends make memory state (calculates (form.Indexed operation from)) m.old m.new }
+    ensures { Ends P.make M.memory P.state (calculates (form.Indexed operation from)) m.old m.new }
 {
     let at = m.indexed(from);
     m.internal(2);
@@ -125,7 +125,7 @@ fn with_indexed<M: Memory, P: Panel>(m: &mut Machine<M, P>, operation: Operation
 // TST r
 fn test_register<M: Memory, P: Panel>(m: &mut Machine<M, P>, with: Register)
     requires { Below 500 m.old }
-    ensures { Ends make memory state (calculates (form.TestRegister with)) m.old m.new }
+    ensures { Ends P.make M.memory P.state (calculates (form.TestRegister with)) m.old m.new }
 {
     m.internal(1);
     let value = byte(&m.cpu, with);
@@ -135,7 +135,7 @@ fn test_register<M: Memory, P: Panel>(m: &mut Machine<M, P>, with: Register)
 // TST n
 fn test_byte<M: Memory, P: Panel>(m: &mut Machine<M, P>)
     requires { Below 500 m.old }
-    ensures { Ends make memory state (calculates form.TestByte) m.old m.new }
+    ensures { Ends P.make M.memory P.state (calculates form.TestByte) m.old m.new }
 {
     let value = m.operand();
     test(&mut m.cpu, value);
@@ -144,7 +144,7 @@ fn test_byte<M: Memory, P: Panel>(m: &mut Machine<M, P>)
 // TST (HL)
 fn test_memory<M: Memory, P: Panel>(m: &mut Machine<M, P>)
     requires { Below 500 m.old }
-    ensures { Ends make memory state (calculates form.TestMemory) m.old m.new }
+    ensures { Ends P.make M.memory P.state (calculates form.TestMemory) m.old m.new }
 {
     m.internal(1);
     let at = pair(&m.cpu, Pair::Hl);
@@ -155,7 +155,7 @@ fn test_memory<M: Memory, P: Panel>(m: &mut Machine<M, P>)
 // CPL
 fn complement<M: Memory, P: Panel>(m: &mut Machine<M, P>)
     requires { Below 500 m.old }
-    ensures { Ends make memory state (calculates form.Complement) m.old m.new }
+    ensures { Ends P.make M.memory P.state (calculates form.Complement) m.old m.new }
 {
     let (a, flags) = logic::complement(m.cpu.main.a, m.cpu.main.f);
     m.cpu.main.a = a;
@@ -165,7 +165,7 @@ fn complement<M: Memory, P: Panel>(m: &mut Machine<M, P>)
 // NEG
 fn negate<M: Memory, P: Panel>(m: &mut Machine<M, P>)
     requires { Below 500 m.old }
-    ensures { Ends make memory state (calculates form.Negate) m.old m.new }
+    ensures { Ends P.make M.memory P.state (calculates form.Negate) m.old m.new }
 {
     let (a, flags) = add::negate(m.cpu.main.a, m.cpu.main.f);
     m.cpu.main.a = a;
@@ -175,7 +175,7 @@ fn negate<M: Memory, P: Panel>(m: &mut Machine<M, P>)
 // MLT ww
 fn multiply_pair<M: Memory, P: Panel>(m: &mut Machine<M, P>, name: Pair)
     requires { Below 500 m.old }
-    ensures { Ends make memory state (calculates (form.Multiply name)) m.old m.new }
+    ensures { Ends P.make M.memory P.state (calculates (form.Multiply name)) m.old m.new }
 {
     m.internal(11);
     let [high, low] = pair(&m.cpu, name).to_be_bytes();
@@ -186,7 +186,7 @@ fn multiply_pair<M: Memory, P: Panel>(m: &mut Machine<M, P>, name: Pair)
 // ADD HL,ss
 fn add_pair<M: Memory, P: Panel>(m: &mut Machine<M, P>, from: Pair)
     requires { Below 500 m.old }
-    ensures { Ends make memory state (calculates (form.AddPair from)) m.old m.new }
+    ensures { Ends P.make M.memory P.state (calculates (form.AddPair from)) m.old m.new }
 {
     m.internal(4);
     let (sum, flags) = wide::add(pair(&m.cpu, Pair::Hl), pair(&m.cpu, from), m.cpu.main.f);
@@ -197,7 +197,7 @@ fn add_pair<M: Memory, P: Panel>(m: &mut Machine<M, P>, from: Pair)
 // ADC HL,ss
 fn add_with_carry_pair<M: Memory, P: Panel>(m: &mut Machine<M, P>, from: Pair)
     requires { Below 500 m.old }
-    ensures { Ends make memory state (calculates (form.AddWithCarryPair from)) m.old m.new }
+    ensures { Ends P.make M.memory P.state (calculates (form.AddWithCarryPair from)) m.old m.new }
 {
     m.internal(4);
     let (sum, flags) = wide::add_with_carry(
@@ -212,7 +212,7 @@ fn add_with_carry_pair<M: Memory, P: Panel>(m: &mut Machine<M, P>, from: Pair)
 // SBC HL,ss
 fn subtract_with_carry_pair<M: Memory, P: Panel>(m: &mut Machine<M, P>, from: Pair)
     requires { Below 500 m.old }
-    ensures { Ends make memory state (calculates (form.SubtractWithCarryPair from)) m.old m.new }
+    ensures { Ends P.make M.memory P.state (calculates (form.SubtractWithCarryPair from)) m.old m.new }
 {
     m.internal(4);
     let (sum, flags) = wide::subtract_with_carry(
@@ -227,7 +227,7 @@ fn subtract_with_carry_pair<M: Memory, P: Panel>(m: &mut Machine<M, P>, from: Pa
 // ADD IX,xx
 fn add_index<M: Memory, P: Panel>(m: &mut Machine<M, P>, to: Index, from: Addend)
     requires { Below 500 m.old }
-    ensures { Ends make memory state (calculates (form.AddIndex to from)) m.old m.new }
+    ensures { Ends P.make M.memory P.state (calculates (form.AddIndex to from)) m.old m.new }
 {
     m.internal(4);
     let (sum, flags) = wide::add(index(&m.cpu, to), addend(&m.cpu, from, to), m.cpu.main.f);
@@ -238,7 +238,7 @@ fn add_index<M: Memory, P: Panel>(m: &mut Machine<M, P>, to: Index, from: Addend
 // INC ss
 fn increment_pair<M: Memory, P: Panel>(m: &mut Machine<M, P>, name: Pair)
     requires { Below 500 m.old }
-    ensures { Ends make memory state (calculates (form.IncrementPair name)) m.old m.new }
+    ensures { Ends P.make M.memory P.state (calculates (form.IncrementPair name)) m.old m.new }
 {
     m.internal(1);
     let value = pair(&m.cpu, name).wrapping_add(1);
@@ -248,7 +248,7 @@ fn increment_pair<M: Memory, P: Panel>(m: &mut Machine<M, P>, name: Pair)
 // DEC ss
 fn decrement_pair<M: Memory, P: Panel>(m: &mut Machine<M, P>, name: Pair)
     requires { Below 500 m.old }
-    ensures { Ends make memory state (calculates (form.DecrementPair name)) m.old m.new }
+    ensures { Ends P.make M.memory P.state (calculates (form.DecrementPair name)) m.old m.new }
 {
     m.internal(1);
     let value = pair(&m.cpu, name).wrapping_sub(1);
@@ -258,7 +258,7 @@ fn decrement_pair<M: Memory, P: Panel>(m: &mut Machine<M, P>, name: Pair)
 // INC IX
 fn increment_index<M: Memory, P: Panel>(m: &mut Machine<M, P>, name: Index)
     requires { Below 500 m.old }
-    ensures { Ends make memory state (calculates (form.IncrementIndex name)) m.old m.new }
+    ensures { Ends P.make M.memory P.state (calculates (form.IncrementIndex name)) m.old m.new }
 {
     m.internal(1);
     let value = index(&m.cpu, name).wrapping_add(1);
@@ -268,7 +268,7 @@ fn increment_index<M: Memory, P: Panel>(m: &mut Machine<M, P>, name: Index)
 // DEC IX
 fn decrement_index<M: Memory, P: Panel>(m: &mut Machine<M, P>, name: Index)
     requires { Below 500 m.old }
-    ensures { Ends make memory state (calculates (form.DecrementIndex name)) m.old m.new }
+    ensures { Ends P.make M.memory P.state (calculates (form.DecrementIndex name)) m.old m.new }
 {
     m.internal(1);
     let value = index(&m.cpu, name).wrapping_sub(1);
