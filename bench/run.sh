@@ -1,5 +1,5 @@
 #!/bin/bash
-# Times the busy image by z80ex and, once it is built, by the card (target/bin/busy, which reads the number of steps on
+# Times the busy image by z80ex and, once it is built, by the card (crates/busy/out/busy, which reads the number of steps on
 # standard input). User time in seconds. Usage: bench/run.sh [STEPS]
 #
 #   apt-get install build-essential libz80ex-dev
@@ -14,9 +14,9 @@ TIMEFORMAT="user %U s"
 echo "z80ex:"
 time "$work/z80ex-run" "$steps" <bench/image.hex
 
-if [ -x target/bin/busy ]; then
+if [ -x crates/busy/out/busy ]; then
     echo "card:"
-    time target/bin/busy <<<"$steps"
+    time crates/busy/out/busy <<<"$steps"
 else
-    echo "card: target/bin/busy is not built"
+    echo "card: crates/busy/out/busy is not built"
 fi

@@ -17,7 +17,7 @@ impl BoardLength {
     // The length of a bank over these bytes, or 1; they are as they were.
     pub fn of_bank(bytes: &[u8]) -> Result<BoardLength, Denial>
         ensures answer { answered_by bytes_of result ≡ board_length (length bytes.now) }
-        ensures same { bytes.now ≡ bytes.now }
+        ensures same { bytes.exit.now ≡ bytes.entry.now }
     {
         Self::checked(bytes.len(), 0)
     }
@@ -25,7 +25,7 @@ impl BoardLength {
     // The length of a ROM-and-RAM board over these bytes, both counted, or 1; they are as they were.
     pub fn of_rom_ram(rom: &[u8], ram: &[u8]) -> Result<BoardLength, Denial>
         ensures answer { answered_by bytes_of result ≡ board_length (length rom.now + length ram.now) }
-        ensures same { (rom.now ≡ rom.now) × (ram.now ≡ ram.now) }
+        ensures same { (rom.exit.now ≡ rom.entry.now) × (ram.exit.now ≡ ram.entry.now) }
     {
         Self::checked(rom.len(), ram.len())
     }
