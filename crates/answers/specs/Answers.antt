@@ -1,5 +1,5 @@
 -- Calls and answers of the code as the definition of a log has them. Assumes nothing.
-use Rattle.std.specs.Prelude.{ℕ, List, vec_items}
+use Rattle.std.specs.Prelude.{vec_items}
 use Rattle.denial.specs.declared.Fault.{Fault}
 use Rattle.denial.specs.Denials.{answered_by, told}
 use Rattle.execution.specs.Steps.{answered_step}

@@ -1,8 +1,8 @@
 -- One turn of a run in code is one turn of the definition. Assumes nothing.
-use Rattle.std.proofs.Common.{◌≡◌, ℕ, zero, suc, ◌+◌, ◌-◌, ◌<◌, ◌≤◌, Bool, true, false, cond, leb, Some, None, Ok, Err, Option, Result, sym, refl, ap, ◌∙◌, ap₂, arith}
+use Rattle.std.proofs.Common.{◌≡◌, ℕ, suc, ◌+◌, ◌-◌, ◌<◌, Bool, true, false, cond, leb, Some, None, Ok, Err, sym, refl, ap, ◌∙◌, ap₂, arith}
 use Rattle.panel.specs.Panel.{Make}
 use Rattle.cycles.specs.Play.{Tally}
-use Rattle.processor.specs.Run.{Finished, Stop, after_answer, fault, finished, goes_on, halted, rests, run_on, spent, sum_of}
+use Rattle.processor.specs.Run.{Finished, after_answer, fault, finished, goes_on, halted, rests, run_on, spent, sum_of}
 use Rattle.processor.specs.Step.{Faulted, Model, Turn, step}
 use Rattle.card.specs.Cards.{Came, came_to}
 

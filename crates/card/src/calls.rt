@@ -25,7 +25,7 @@ const MOST: u32 = 1_000_000;
 impl<M: Memory, P: Panel> Card<M, P> {
     // A card over a memory and a panel, with its registers as after reset.
     pub fn new(memory: M, panel: P) -> Card<M, P>
-        ensures model { model M.Memory.memory state result ≡ made (M.Memory.memory memory) (state panel) }
+        ensures model { model M.memory P.state result ≡ made (M.memory memory) (P.state panel) }
         ensures memory { result.machine.memory ≡ memory }
         ensures panel { result.machine.panel ≡ panel }
     {
@@ -45,9 +45,9 @@ impl<M: Memory, P: Panel> Card<M, P> {
 
     // One step, or a fault that changes nothing.
     pub fn step(&mut self) -> Result<Cost, Fault>
-        ensures turn { seen M.Memory.memory state result self.new ≡ stepping.step make (model M.Memory.memory state self.old) }
-        ensures few { Few self.old.machine.window 2 (M.Memory.memory self.old.machine.memory) (M.Memory.memory self.new.machine.memory) }
-        ensures secluded { Secluded make (model M.Memory.memory state self.old) (seen M.Memory.memory state result self.new) }
+        ensures turn { seen M.memory P.state result self.new ≡ stepping.step P.make (model M.memory P.state self.old) }
+        ensures few { Few self.old.machine.window 2 (M.memory self.old.machine.memory) (M.memory self.new.machine.memory) }
+        ensures secluded { Secluded P.make (model M.memory P.state self.old) (seen M.memory P.state result self.new) }
     {
         step(&mut self.machine)
     }
@@ -55,8 +55,8 @@ impl<M: Memory, P: Panel> Card<M, P> {
     // Steps until one is denied, or leaves the card halted or asleep, or the budget of states is spent; 6 for a budget outside
     // 1 to 1,000,000.
     pub fn run(&mut self, budget: u32) -> Result<Ran, Denial>
-        ensures run { ran M.Memory.memory state result self.new ≡ run_called make budget (model M.Memory.memory state self.old) }
-        ensures few { Each ChangesFew (running.run make budget (model M.Memory.memory state self.old)).steps }
+        ensures run { ran M.memory P.state result self.new ≡ run_called P.make budget (model M.memory P.state self.old) }
+        ensures few { Each ChangesFew (running.run P.make budget (model M.memory P.state self.old)).steps }
     {
         if budget < 1 || budget > MOST {
             return Err(Denial::BudgetOutOfRange);
@@ -66,7 +66,7 @@ impl<M: Memory, P: Panel> Card<M, P> {
 
     fn run_on(&mut self, budget: u32) -> Ran
         requires { budget ≤ 1000000 }
-        ensures { came M.Memory.memory state result self.new ≡ came_to (running.run make budget (model M.Memory.memory state self.old)) }
+        ensures { came M.memory P.state result self.new ≡ came_to (running.run P.make budget (model M.memory P.state self.old)) }
     {
         let mut cycles = 0u64;
         let mut states = 0u64;
@@ -115,7 +115,7 @@ impl<M: Memory, P: Panel> Card<M, P> {
 
     // All registers as after making; memory and panel are not touched.
     pub fn reset(&mut self)
-        ensures model { model M.Memory.memory state self.new ≡ running.reset (model M.Memory.memory state self.old) }
+        ensures model { model M.memory P.state self.new ≡ running.reset (model M.memory P.state self.old) }
         ensures memory { self.new.machine.memory ≡ self.old.machine.memory }
         ensures panel { self.new.machine.panel ≡ self.old.machine.panel }
     {

@@ -24,7 +24,7 @@ impl<M: Memory, P> Card<M, P> {
 
     // The byte at a physical address, or 5.
     pub fn read(&self, at: u32) -> Result<u8, Denial>
-        ensures { answered result ≡ fetched (M.Memory.memory self.now.machine.memory) at }
+        ensures { answered result ≡ fetched (M.memory self.now.machine.memory) at }
     {
         self.machine.memory.read(at)
     }
@@ -32,7 +32,7 @@ impl<M: Memory, P> Card<M, P> {
     // Puts a byte at a physical address if it takes writes, or 5.
     pub fn write(&mut self, at: u32, byte: u8) -> Result<(), Denial>
         ensures answer { answered result ≡ accepted at }
-        ensures memory { M.Memory.memory self.new.machine.memory ≡ store (M.Memory.memory self.old.machine.memory) at byte }
+        ensures memory { M.memory self.new.machine.memory ≡ store (M.memory self.old.machine.memory) at byte }
         ensures cpu { self.new.machine.cpu ≡ self.old.machine.cpu }
         ensures window { self.new.machine.window ≡ self.old.machine.window }
         ensures panel { self.new.machine.panel ≡ self.old.machine.panel }

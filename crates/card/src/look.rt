@@ -14,7 +14,7 @@ const MOST: usize = 4096;
 
 // The byte at a logical address. A translated address is never denied.
 fn byte_through<M: Memory>(memory: &M, window: Window, at: u16) -> u8
-    ensures { result ≡ (M.Memory.memory memory.now).byte (physical_of window at) }
+    ensures { result ≡ (M.memory memory.now).byte (physical_of window at) }
 {
     match memory.read(window.physical(at)) {
         Ok(byte) => byte,
@@ -23,7 +23,7 @@ fn byte_through<M: Memory>(memory: &M, window: Window, at: u16) -> u8
 }
 
 fn fill_through<M: Memory>(memory: &M, window: Window, at: u16, buffer: &mut [u8])
-    ensures { buffer.new ≡ looked (M.Memory.memory memory.now).byte window at (length buffer.old) }
+    ensures { buffer.new ≡ looked (M.memory memory.now).byte window at (length buffer.old) }
 {
     let mut place = at;
     for byte in buffer.iter_mut() {
@@ -56,7 +56,7 @@ impl<'a, M: Memory> Look<'a, M> {
     // Fills a buffer from a logical address on, through the look's window; or 7, and the buffer is as it was.
     pub fn fill(&self, at: u16, buffer: &mut [u8]) -> Result<(), Denial>
         ensures answer { answered result ≡ (if is_length (length buffer.old) then Ok tt else Err (numbered 7)) }
-        ensures buffer { buffer.new ≡ (if is_length (length buffer.old) then looked (M.Memory.memory self.now.memory.now).byte self.now.window.now at (length buffer.old) else buffer.old) }
+        ensures buffer { buffer.new ≡ (if is_length (length buffer.old) then looked (M.memory self.now.memory.now).byte self.now.window.now at (length buffer.old) else buffer.old) }
     {
         if buffer.len() > MOST {
             return Err(Denial::LookOutOfRange);

@@ -45,7 +45,7 @@ impl<M: Memory, P> Card<M, P> {
     // Opens, fills and ends.
     pub fn look(&mut self, window: Window, at: u16, buffer: &mut [u8]) -> Result<(), Denial>
         ensures answer { answered result ≡ (if is_look window (length buffer.old) then Ok tt else Err (numbered 7)) }
-        ensures buffer { buffer.new ≡ (if is_look window (length buffer.old) then looked (M.Memory.memory self.old.machine.memory).byte window at (length buffer.old) else buffer.old) }
+        ensures buffer { buffer.new ≡ (if is_look window (length buffer.old) then looked (M.memory self.old.machine.memory).byte window at (length buffer.old) else buffer.old) }
         ensures card { self.new ≡ self.old }
     {
         let window = LookWindow::new(window)?;

@@ -82,7 +82,7 @@ module _ {S : Type 0} (make : Make S) where
       chosen_few budget fuel (suc n) (sum_of t cost) (rests c.processor.cpu.mode) (leb budget (sum_of t cost).states) c (rest (sum_of t cost))
   answer_few budget fuel n t (Err why) c rest = tt
 
-  run_few : (budget fuel n : ℕ) (t : Tally) (c : Model S) → Each ChangesFew (run_on make budget fuel n t c).steps
+  pub run_few : (budget fuel n : ℕ) (t : Tally) (c : Model S) → Each ChangesFew (run_on make budget fuel n t c).steps
   run_few budget zero n t c = tt
   run_few budget (suc fuel) n t c =
       ((steps.laws make).few c, answer_few budget fuel n t (step make c).answer (step make c).card (λ u. run_few budget fuel (suc n) u (step make c).card))
