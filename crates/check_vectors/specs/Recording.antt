@@ -1,5 +1,5 @@
 -- The recording panel as a panel. Assumes nothing.
-use Rattle.std.specs.Prelude.{ℕ, false}
+use Rattle.std.specs.Prelude.{false}
 use Rattle.panel.specs.Panel.{Make}
 use Rattle.check_vectors.specs.Accesses.{behind}
 use Rattle.check_vectors.specs.declared.access.Access.{Access}
