@@ -5,3 +5,4 @@ pub mod Order
 pub mod Time
 pub mod Runs
 pub mod Frame
+pub mod Asleep

@@ -1,7 +1,8 @@
-// Laws of the processor's definition that hold on every card. There is no code to run here: each function names laws, so that
-// they are proved, and does nothing.
+// Laws of the processor's definition: on cards set up for it, the order in which a step uses memory, and sleep behind EI; then
+// what holds on every card. There is no code to run here: each function names laws, so that they are proved, and does nothing.
 #![tactic(auto)]
 
+ghost use Rattle.card_laws.specs.Asleep.{IdlesBehindEi};
 ghost use Rattle.card_laws.specs.Every.{Branches, Every};
 ghost use Rattle.card_laws.specs.Frame.{Frame};
 ghost use Rattle.card_laws.specs.Order.{Orders};
@@ -13,6 +14,10 @@ use panel::Panel;
 
 pub fn orders()
     ensures { Orders }
+{}
+
+pub fn asleep()
+    ensures { IdlesBehindEi }
 {}
 
 // What follows holds with every make of panel.
