@@ -1,5 +1,5 @@
 -- How far two lists of answers are the same. Assumes nothing.
-use Rattle.std.proofs.Common.{◌≡◌, ℕ, suc, ◌+◌, ◌<◌, ◌≢◌, List, [], ◌∷◌, ◌++◌, map, length, get_or, take, Some, None, sym, refl, ap, ◌∙◌, ap₂, arith, take-suc}
+use Rattle.std.proofs.Common.{◌≡◌, ℕ, suc, ◌+◌, ◌<◌, ◌≢◌, List, [], ◌∷◌, ◌++◌, map, length, get_or, take, Some, None, sym, ap, ◌∙◌, ap₂, arith, take-suc}
 use lib.ListN.{length-map}
 use lib.Seq.{take-length}
 use Rattle.std.proofs.lemmas.List.{get_or-map}

@@ -1,5 +1,5 @@
 -- The bytes of an accepted look, in the room that was got for them. Assumes nothing.
-use Rattle.std.proofs.Common.{◌≡◌, ℕ, Bool, true, cond, List, ◌++◌, length, take, Ok, Err, Result, sym, ap, ◌∙◌, subst, take_at}
+use Rattle.std.proofs.Common.{◌≡◌, ℕ, Bool, true, cond, List, ◌++◌, length, take, Ok, Err, Result, sym, ap, ◌∙◌, take_at}
 use Rattle.denial.specs.Denials.{Told, numbered}
 use Rattle.registers.specs.declared.window.Window.{Window}
 use Rattle.processor.specs.Run.{is_look, looked}

@@ -41,8 +41,8 @@ fn line<M: Memory, N: Memory, P: Panel>(
     others: &mut Vec<Answer>,
     call: Call,
 ) -> bool
-    ensures first { so_far M.Memory.memory state first.new answers.new.items ≡ (if result then more make (call_of call) (so_far M.Memory.memory state first.old answers.old.items) else so_far M.Memory.memory state first.old answers.old.items) }
-    ensures second { so_far N.Memory.memory state second.new others.new.items ≡ (if result then more make (call_of call) (so_far N.Memory.memory state second.old others.old.items) else so_far N.Memory.memory state second.old others.old.items) }
+    ensures first { so_far M.memory P.state first.new answers.new.items ≡ (if result then more P.make (call_of call) (so_far M.memory P.state first.old answers.old.items) else so_far M.memory P.state first.old answers.old.items) }
+    ensures second { so_far N.memory P.state second.new others.new.items ≡ (if result then more P.make (call_of call) (so_far N.memory P.state second.old others.old.items) else so_far N.memory P.state second.old others.old.items) }
 {
     let Ok((one, other)) = rooms(heap, call, answers, others) else {
         return false;
@@ -89,11 +89,11 @@ pub fn replay_pair<M: Memory, N: Memory, P: Panel>(
     other: P,
     log: &[Call],
 ) -> ReplayedPair<M, N, P>
-    ensures first { so_far M.Memory.memory state result.first result.answers.items ≡ as_far_as make (map call_of (take result.served log.now)) (M.Memory.memory first) (state panel) }
-    ensures second { so_far N.Memory.memory state result.second result.others.items ≡ as_far_as make (map call_of (take result.served log.now)) (N.Memory.memory second) (state other) }
+    ensures first { so_far M.memory P.state result.first result.answers.items ≡ as_far_as P.make (map call_of (take result.served log.now)) (M.memory first) (P.state panel) }
+    ensures second { so_far N.memory P.state result.second result.others.items ≡ as_far_as P.make (map call_of (take result.served log.now)) (N.memory second) (P.state other) }
     ensures difference { FirstDifference (map answer_of result.answers.items) (map answer_of result.others.items) result.difference }
     ensures whole { result.complete ≡ true → result.served ≡ length log.now }
-    ensures together { Together make (map call_of (take result.served log.now)) (M.Memory.memory first) (N.Memory.memory second) (state panel) (state other) }
+    ensures together { Together P.make (map call_of (take result.served log.now)) (M.memory first) (N.memory second) (P.state panel) (P.state other) }
 {
     let mut one = Card::new(first, panel);
     let mut two = Card::new(second, other);

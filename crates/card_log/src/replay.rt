@@ -19,7 +19,7 @@ fn line<M: Memory, P: Panel>(
     answers: &mut Vec<Answer>,
     call: Call,
 ) -> bool
-    ensures { so_far M.Memory.memory state card.new answers.new.items ≡ (if result then more make (call_of call) (so_far M.Memory.memory state card.old answers.old.items) else so_far M.Memory.memory state card.old answers.old.items) }
+    ensures { so_far M.memory P.state card.new answers.new.items ≡ (if result then more P.make (call_of call) (so_far M.memory P.state card.old answers.old.items) else so_far M.memory P.state card.old answers.old.items) }
 {
     let Ok(()) = answers.reserve(1) else {
         return false;
@@ -38,9 +38,9 @@ pub fn replay<M: Memory, P: Panel>(
     panel: P,
     log: &[Call],
 ) -> Replayed<M, P>
-    ensures replayed { so_far M.Memory.memory state result.card result.answers.items ≡ as_far_as make (map call_of (take result.served log.now)) (M.Memory.memory memory) (state panel) }
+    ensures replayed { so_far M.memory P.state result.card result.answers.items ≡ as_far_as P.make (map call_of (take result.served log.now)) (M.memory memory) (P.state panel) }
     ensures whole { result.complete ≡ true → result.served ≡ length log.now }
-    ensures alone { Alone make (map call_of (take result.served log.now)) (M.Memory.memory memory) (state panel) }
+    ensures alone { Alone P.make (map call_of (take result.served log.now)) (M.memory memory) (P.state panel) }
 {
     let mut card = Card::new(memory, panel);
     let mut answers = Vec::new(heap);

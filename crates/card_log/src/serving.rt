@@ -48,7 +48,7 @@ fn look<M: Memory, P: Panel>(
     room: Vec<u8>,
 ) -> Result<Vec<u8>, Denial>
     requires { vec_len room ≡ (if running.is_look window length then length else 0) }
-    ensures answer { answered_by vec_items result ≡ (if running.is_look window length then Ok (running.looked (M.Memory.memory card.old.machine.memory).byte window at length) else Err (numbered 7)) }
+    ensures answer { answered_by vec_items result ≡ (if running.is_look window length then Ok (running.looked (M.memory card.old.machine.memory).byte window at length) else Err (numbered 7)) }
     ensures card { card.new ≡ card.old }
 {
     if !is_look(window, length) {
@@ -62,8 +62,8 @@ fn look<M: Memory, P: Panel>(
 // The answer to a call, with the card as the call leaves it.
 fn serve<M: Memory, P: Panel>(card: &mut Card<M, P>, call: Call, room: Vec<u8>) -> Answer
     requires { vec_len room ≡ room_for (call_of call) }
-    ensures answer { answer_of result ≡ (log.serve make (call_of call) (model M.Memory.memory state card.old)).answer }
-    ensures card { model M.Memory.memory state card.new ≡ (log.serve make (call_of call) (model M.Memory.memory state card.old)).card }
+    ensures answer { answer_of result ≡ (log.serve P.make (call_of call) (model M.memory P.state card.old)).answer }
+    ensures card { model M.memory P.state card.new ≡ (log.serve P.make (call_of call) (model M.memory P.state card.old)).card }
 {
     match call {
         Call::Step => Answer::Step(card.step()),
@@ -85,7 +85,7 @@ pub(crate) fn keep<M: Memory, P: Panel>(
 )
     requires room_len { vec_len room ≡ room_for (call_of call) }
     requires answers_len_bound { vec_len answers.old < vec_capacity answers.old }
-    ensures { so_far M.Memory.memory state card.new answers.new.items ≡ more make (call_of call) (so_far M.Memory.memory state card.old answers.old.items) }
+    ensures { so_far M.memory P.state card.new answers.new.items ≡ more P.make (call_of call) (so_far M.memory P.state card.old answers.old.items) }
 {
     let answer = serve(card, call, room);
     let _ = answers.push(answer);

@@ -23,7 +23,7 @@ pub fn ended<M: Memory, P>(
     buffer: &mut [u8],
 ) -> Result<(), Denial>
     ensures answer { answered result ≡ (if is_length (length buffer.old) then Ok tt else Err (numbered 7)) }
-    ensures buffer { buffer.new ≡ filled (M.Memory.memory card.old.machine.memory).byte window.window at buffer.old }
+    ensures buffer { buffer.new ≡ filled (M.memory card.old.machine.memory).byte window.window at buffer.old }
     ensures card { card.new ≡ card.old }
 {
     let look = card.open(window);
@@ -40,7 +40,7 @@ pub fn let_go<M: Memory, P>(
     buffer: &mut [u8],
 ) -> Result<(), Denial>
     ensures answer { answered result ≡ (if is_length (length buffer.old) then Ok tt else Err (numbered 7)) }
-    ensures buffer { buffer.new ≡ filled (M.Memory.memory card.old.machine.memory).byte window.window at buffer.old }
+    ensures buffer { buffer.new ≡ filled (M.memory card.old.machine.memory).byte window.window at buffer.old }
     ensures card { card.new ≡ card.old }
 {
     let look = card.open(window);
@@ -55,8 +55,8 @@ pub fn ended_then_stepped<M: Memory, P: Panel>(
     buffer: &mut [u8],
 ) -> (Result<(), Denial>, Result<Cost, Fault>)
     ensures answer { answered result.0 ≡ (if is_length (length buffer.old) then Ok tt else Err (numbered 7)) }
-    ensures buffer { buffer.new ≡ filled (M.Memory.memory card.old.machine.memory).byte window.window at buffer.old }
-    ensures turn { seen M.Memory.memory state result.1 card.new ≡ stepping.step make (model M.Memory.memory state card.old) }
+    ensures buffer { buffer.new ≡ filled (M.memory card.old.machine.memory).byte window.window at buffer.old }
+    ensures turn { seen M.memory P.state result.1 card.new ≡ stepping.step P.make (model M.memory P.state card.old) }
 {
     let look = card.open(window);
     let answer = look.fill(at, buffer);
@@ -74,8 +74,8 @@ pub fn ended_then_opened<M: Memory, P>(
     second: &mut [u8],
 ) -> (Result<(), Denial>, Result<(), Denial>)
     ensures answers { (answered result.0 ≡ (if is_length (length first.old) then Ok tt else Err (numbered 7))) × (answered result.1 ≡ (if is_length (length second.old) then Ok tt else Err (numbered 7))) }
-    ensures first { first.new ≡ filled (M.Memory.memory card.old.machine.memory).byte windows.0.window at first.old }
-    ensures second { second.new ≡ filled (M.Memory.memory card.old.machine.memory).byte windows.1.window at second.old }
+    ensures first { first.new ≡ filled (M.memory card.old.machine.memory).byte windows.0.window at first.old }
+    ensures second { second.new ≡ filled (M.memory card.old.machine.memory).byte windows.1.window at second.old }
     ensures card { card.new ≡ card.old }
 {
     let look = card.open(windows.0);

@@ -1,4 +1,4 @@
-use Rattle.std.proofs.Common.{◌≡◌, arith}
+use Rattle.std.proofs.Common.{arith}
 use borrow.Author.Tests.{both_ways}
 use Rattle.card_log.proofs.Differing.{alike, differ, same_all}
 use Rattle.card_log.proofs.difference.first_difference.Goals as goal

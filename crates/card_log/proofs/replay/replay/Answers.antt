@@ -1,10 +1,10 @@
-use Rattle.std.proofs.Common.{◌≡◌, ℕ, Bool, true, false, cond, List, map, length, take, vec_items, refl, ap, ◌∙◌, arith}
+use Rattle.std.proofs.Common.{◌≡◌, ℕ, List, map, length, take, refl, ap, ◌∙◌, arith}
 use Rattle.std.proofs.lemmas.Bool.Decides.{nat_tests}
 use Rattle.processor.specs.Step.{Model}
 use Rattle.answers.specs.declared.answer.Answer.{Answer}
 use Rattle.answers.specs.Answers.{call_of}
 use Rattle.card.specs.Cards.{model}
-use Rattle.card_log.specs.Replays.{more, reached, so_far}
+use Rattle.card_log.specs.Replays.{reached, so_far}
 use Rattle.card_log.proofs.Lines.{alone, served}
 use Rattle.card_log.proofs.replay.replay.Goals as goal
 
