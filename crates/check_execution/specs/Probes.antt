@@ -1,5 +1,5 @@
 -- The panel of the tests: what it answers, and what each call leaves. Assumes nothing.
-use Rattle.std.specs.Prelude.{ℕ, ◌+◌, min, Bool, false, cond, Some, Option}
+use Rattle.std.specs.Prelude.{ℕ, ◌+◌, min, Bool, false, cond, Some}
 use Rattle.panel.specs.declared.line.Line.{Line}
 use Rattle.panel.specs.declared.line.Line.TheVariants.{Int0, Int1, Int2, Nmi}
 use Rattle.panel.specs.declared.sent.Sent.{Sent}

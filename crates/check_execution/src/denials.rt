@@ -4,6 +4,7 @@ use crate::scene::*;
 use denial::Denial;
 use panel::line::Line;
 use registers::registers::{InterruptMode, Mode};
+use std::test::Fail;
 
 const RESTARTS: [u8; 8] = [0xC7, 0xCF, 0xD7, 0xDF, 0xE7, 0xEF, 0xF7, 0xFF];
 

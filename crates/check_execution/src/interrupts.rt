@@ -2,6 +2,7 @@
 use crate::scene::*;
 use panel::line::Line;
 use registers::registers::{InterruptMode, Mode};
+use std::test::Fail;
 
 #[test]
 fn each_line_alone(rt: HostRuntime) -> Result<(), Fail> {

@@ -3,6 +3,7 @@ use crate::scene::*;
 use denial::Denial;
 use panel::line::Line;
 use registers::registers::Mode;
+use std::test::Fail;
 
 // With IEF1 = 0, or its bit of ITC 0, a line that is asked for leaves the step to the instruction.
 #[test]

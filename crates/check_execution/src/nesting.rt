@@ -2,6 +2,7 @@
 use crate::scene::*;
 use panel::line::Line;
 use registers::registers::Mode;
+use std::test::Fail;
 
 // NMI saves IEF1 in IEF2, whatever that held, and RETN brings it back.
 #[test]

@@ -5,6 +5,7 @@ use memory::length::BoardLength;
 use memory::rom_ram::RomRam;
 use registers::registers::Mode;
 use registers::window::Window;
+use std::test::Fail;
 
 // LD HL,(3FFFH) reads 03FFFH, then 24000H.
 #[test]

@@ -8,6 +8,7 @@ use panel::sent::Sent;
 use registers::registers::{Mode, Registers};
 use registers::window::Window;
 use std::process::Abort;
+use std::test::Fail;
 
 const BASES: Window = Window {
     cbar: 0xF0,

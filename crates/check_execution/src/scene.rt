@@ -11,6 +11,7 @@ use registers::registers::{InterruptMode, Mode, RegisterSet, Registers};
 use registers::window::Window;
 use std::alloc::Global;
 use std::process::Abort;
+use std::test::Fail;
 
 #[derive(Clone, Copy)]
 pub enum Given {

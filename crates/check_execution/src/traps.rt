@@ -5,6 +5,7 @@ use machine::state::Machine;
 use memory::Memory;
 use registers::registers::Registers;
 use std::process::Abort;
+use std::test::Fail;
 
 // Undefined behind CBH.
 const NOT_CB: [u8; 8] = [0x30, 0x31, 0x32, 0x33, 0x34, 0x35, 0x36, 0x37];

@@ -2,6 +2,7 @@
 use crate::scene::*;
 use panel::line::Line;
 use registers::registers::Mode;
+use std::test::Fail;
 
 // HALT, idle steps that R does not count, then each line wakes the card and is served.
 #[test]

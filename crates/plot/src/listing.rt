@@ -13,11 +13,10 @@ use panel::chain::Chain;
 use panel::track::Track;
 use registers::registers::Registers;
 use registers::window::Window;
-use std::alloc::Global;
-use std::fmt;
+use std::alloc::{AllocError, Global};
 
 // A line for each record of a chain, the first one first.
-fn records(text: &mut String, panel: &Chain, track: Track) -> fmt::Result
+fn records(text: &mut String, panel: &Chain, track: Track) -> Result<(), AllocError>
     ensures { OnOk result (string_bytes text.new ≡ string_bytes text.old ++ track_text (chain_state panel.now) track) }
 {
     for (number, record) in panel.walk(track) {
@@ -37,7 +36,7 @@ fn plot_text(
     cpu: Registers,
     window: Window,
     panel: &Chain,
-) -> Result<String, fmt::Error>
+) -> Result<String, AllocError>
     ensures { IfOk result (λ text. string_bytes text ≡ text_of_plot (ran_of ran) cpu window (chain_state panel.now)) }
 {
     let run = RunLine(ran);
