@@ -1,5 +1,5 @@
 -- A log of one run, and what it came to. Assumes nothing.
-use Rattle.std.proofs.Common.{◌≡◌, ℕ, ◌-◌, ◌≤◌, Bool, true, cond, List, [], ◌∷◌, ◌++◌, map, length, get_or, take, replicate, Ok, Err, sym, refl, ap, ◌∙◌, ap₂, arith, take_all}
+use Rattle.std.proofs.Common.{◌≡◌, ℕ, ◌-◌, ◌≤◌, Bool, true, cond, List, [], ◌∷◌, ◌++◌, map, length, get_or, take, replicate, Ok, Err, sym, ap, ◌∙◌, ap₂, arith, take_all}
 use Rattle.memory.specs.Memory.{Mem}
 use Rattle.panel.specs.Chains.{State, chain_make}
 use Rattle.processor.specs.Log as log

@@ -3,7 +3,6 @@ use Rattle.panel.specs.Shown.{chain_state}
 use Rattle.processor.specs.Log as log
 use Rattle.card.specs.Cards.{model, ran_of}
 use Rattle.answers.specs.declared.answer.Answer.{Answer}
-use Rattle.answers.specs.declared.call.Call.{Call}
 use Rattle.answers.specs.declared.call.Call.TheVariants as call
 use Rattle.answers.specs.Answers.{answer_of, call_of}
 use Rattle.plot.specs.Listing.{Lists, text_of_plot}
