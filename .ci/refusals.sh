@@ -2,14 +2,16 @@
 # refusals.sh FOLDER: tries the refusals that only the compiler can give, over a copy of the repository in FOLDER.
 # Each .ci/refusals/*.refusal has the lines 'crate: NAME', 'file: PATH below crates/NAME', 'old: TEXT' (standing once in
 # that file), 'new: TEXT' and 'error: NAME'. A text of several lines has a line 'old:' or 'new:' for each. The unedited copy
-# must pass rt test, which checks a crate together with its tests; the edited one must fail, and the errors in its log must be
-# that one and no other.
+# must pass rt check and, with its tests, rt test; the edited one must fail, and the errors in its log must be that one and no
+# other.
 set -u
 cd "$(dirname "$0")/.." || exit 1
 copy=$1/copy
 mkdir "$copy" && tar --exclude=./.git --exclude='./crates/*/out' -cf - . | tar -xf - -C "$copy" || exit 1
 
 field() { sed -n "s/^$1: //p" "$2"; }
+
+checked() { (cd "$1" && rt check && rt test); }
 
 # edit FILE OLD NEW: puts NEW in the place of OLD, which stands exactly once.
 edit() {
@@ -29,7 +31,7 @@ for refusal in .ci/refusals/*.refusal; do
     file=$copy/crates/$crate/$(field file "$refusal")
     error="error[$(field error "$refusal")]"
     log=$1/$label.log
-    if ! (cd "$copy/crates/$crate" && rt test) >"$log" 2>&1; then
+    if ! checked "$copy/crates/$crate" >"$log" 2>&1; then
         cat "$log"
         echo "refusal $label: the unedited copy does not pass"
         exit 1
@@ -39,7 +41,7 @@ for refusal in .ci/refusals/*.refusal; do
         echo "refusal $label: its old text does not stand once in $file"
         exit 1
     fi
-    if (cd "$copy/crates/$crate" && rt test) >"$log" 2>&1; then
+    if checked "$copy/crates/$crate" >"$log" 2>&1; then
         echo "refusal $label: the edited copy passes"
         exit 1
     fi
