@@ -1,28 +1,17 @@
 -- Worked numbers, one statement over all of them. Assumes nothing.
-use Rattle.std.specs.Prelude.{◌≡◌, ℕ, ◌+◌, List, [], ◌∷◌, Ok}
+use Rattle.std.specs.Prelude.{◌≡◌, ℕ, List, [], ◌∷◌, Ok}
 use Rattle.arithmetic.specs.Flags.{byte}
 use Rattle.panel.specs.Panel.{Make}
 use Rattle.panel.specs.Script.{script_make}
 use Rattle.registers.specs.declared.registers.Registers.{Registers}
 use Rattle.registers.specs.declared.window.Area.TheVariants.{Common0, Common1}
-use Rattle.registers.specs.declared.window.Window.{Window}
 use Rattle.registers.specs.Operands.{af, hl, with_af, with_bc, with_hl}
-use Rattle.registers.specs.Registers.{fresh_window, word}
-use Rattle.registers.specs.Window.{area_of, physical_of}
+use Rattle.registers.specs.Registers.{fresh_window}
+use Rattle.registers.specs.Window.{area_of, physical_of, window_48, window_84}
 use Rattle.processor.specs.Step.{Turn, step}
 use Rattle.processor_laws.specs.Bench.{at_start, card, memory_with, quiet}
+use Rattle.processor_laws.specs.Worked.{stacked}
 use Rattle.card_laws.specs.Executes.{Quiet}
-
--- CBAR 84H, CBR 7CH and BBR 20H, and CBAR 48H.
-abbrev pub window_84 : Window
-window_84 = record { cbar = 0x84; cbr = 0x7C; bbr = 0x20 }
-
-abbrev pub window_48 : Window
-window_48 = record { cbar = 0x48; cbr = 0; bbr = 0 }
-
--- The word that the stack pointer stands at.
-abbrev pub stacked : {S : Type 0} → Turn S → ℕ
-stacked t = word (t.card.mem.byte (t.card.processor.cpu.sp + 1)) (t.card.mem.byte t.card.processor.cpu.sp)
 
 -- One step with any panel.
 abbrev pub stepped_with : {S : Type 0} → Make S → S → Registers → List ℕ → Turn S

@@ -7,7 +7,8 @@ use Rattle.panel.specs.Script.{script_make}
 use Rattle.registers.specs.Operands.{af, hl}
 use Rattle.processor_laws.specs.Bench.{quiet}
 use Rattle.card_laws.specs.Executes.{Quiet}
-use Rattle.card_laws.specs.Worked.{WorkedSteps, stacked}
+use Rattle.processor_laws.specs.Worked.{stacked}
+use Rattle.card_laws.specs.Worked.{WorkedSteps}
 use Rattle.card_laws.proofs.Executing.{executing, runs}
 use Rattle.card_laws.proofs.worked_numbers.Goals as goal
 
