@@ -13,12 +13,12 @@ is_asked a Int0 = a.int0
 is_asked a Int1 = a.int1
 is_asked a Int2 = a.int2
 
--- All but one line are asked for as before.
-abbrev pub without : Asked → Line → Asked
-without a Nmi = record { nmi = false; int0 = a.int0; int1 = a.int1; int2 = a.int2 }
-without a Int0 = record { nmi = a.nmi; int0 = false; int1 = a.int1; int2 = a.int2 }
-without a Int1 = record { nmi = a.nmi; int0 = a.int0; int1 = false; int2 = a.int2 }
-without a Int2 = record { nmi = a.nmi; int0 = a.int0; int1 = a.int1; int2 = false }
+-- One line is asked for, or not; the others are as before.
+abbrev pub with_asked : Line → Bool → Asked → Asked
+with_asked Nmi asked a = record { nmi = asked; int0 = a.int0; int1 = a.int1; int2 = a.int2 }
+with_asked Int0 asked a = record { nmi = a.nmi; int0 = asked; int1 = a.int1; int2 = a.int2 }
+with_asked Int1 asked a = record { nmi = a.nmi; int0 = a.int0; int1 = asked; int2 = a.int2 }
+with_asked Int2 asked a = record { nmi = a.nmi; int0 = a.int0; int1 = a.int1; int2 = asked }
 
 abbrev pub with_read : ℕ → Probe → Probe
 with_read port p = record { asked = p.asked; keeps = p.keeps; byte = p.byte; full = p.full; answer = p.answer; acknowledged = p.acknowledged; told = p.told; last_write = p.last_write; last_read = Some port }
@@ -30,7 +30,7 @@ abbrev pub with_told : ℕ → Probe → Probe
 with_told n p = record { asked = p.asked; keeps = p.keeps; byte = p.byte; full = p.full; answer = p.answer; acknowledged = p.acknowledged; told = n; last_write = p.last_write; last_read = p.last_read }
 
 abbrev pub with_acknowledged : Line → Probe → Probe
-with_acknowledged l p = record { asked = cond p.keeps p.asked (without p.asked l); keeps = p.keeps; byte = p.byte; full = p.full; answer = p.answer; acknowledged = Some l; told = p.told; last_write = p.last_write; last_read = p.last_read }
+with_acknowledged l p = record { asked = cond p.keeps p.asked (with_asked l false p.asked); keeps = p.keeps; byte = p.byte; full = p.full; answer = p.answer; acknowledged = Some l; told = p.told; last_write = p.last_write; last_read = p.last_read }
 
 abbrev pub probe_make : Make Probe
 probe_make = record {

@@ -9,7 +9,7 @@ use memory::bank::Bank;
 use memory::length::BoardLength;
 use panel::Panel;
 use panel::line::Line;
-use registers::registers::{InterruptMode, Mode, RegisterSet, Registers};
+use registers::registers::{InterruptMode, Mode, Registers};
 use registers::window::Window;
 use std::process::Abort;
 use std::test::Fail;
@@ -55,15 +55,6 @@ pub fn silent() -> Probe {
     }
 }
 
-pub fn set_line(panel: &mut Probe, line: Line, asked: bool) {
-    match line {
-        Line::Nmi => panel.asked.nmi = asked,
-        Line::Int0 => panel.asked.int0 = asked,
-        Line::Int1 => panel.asked.int1 = asked,
-        Line::Int2 => panel.asked.int2 = asked,
-    }
-}
-
 pub fn card<M>(memory: M) -> Machine<M, Probe> {
     Machine {
         cpu: ready(),
@@ -82,6 +73,7 @@ pub fn banked(bytes: &mut [u8]) -> Result<Machine<Bank<'_>, Probe>, Fail> {
     Ok(card(Bank::new(bytes, size)))
 }
 
+// The address is counted here, since it wraps at the end of the logical space.
 pub fn put<M: Memory>(m: &mut Machine<M, Probe>, at: u16, bytes: &[u8]) -> Result<(), Fail> {
     let mut at = at;
     for byte in bytes {
@@ -170,60 +162,12 @@ pub fn serves<M: Memory>(
     enables(rt, m, false, line == Line::Nmi && before.ief1)
 }
 
-fn same_set(a: &RegisterSet, b: &RegisterSet) -> bool {
-    (a.a == b.a)
-        & (a.f.to_byte() == b.f.to_byte())
-        & (a.b == b.b)
-        & (a.c == b.c)
-        & (a.d == b.d)
-        & (a.e == b.e)
-        & (a.h == b.h)
-        & (a.l == b.l)
-}
-
-fn same_bytes(a: &Registers, b: &Registers) -> bool {
-    (a.i == b.i) & (a.r == b.r) & (a.il == b.il) & (a.itc == b.itc) & (a.icr == b.icr)
-}
-
-fn same_words(a: &Registers, b: &Registers) -> bool {
-    (a.ix == b.ix) & (a.iy == b.iy) & (a.sp == b.sp) & (a.pc == b.pc)
-}
-
-fn same_modes(a: &Registers, b: &Registers) -> bool {
-    (a.ief1 == b.ief1) & (a.ief2 == b.ief2) & (a.ei == b.ei) & (a.im == b.im) & (a.mode == b.mode)
-}
-
-pub fn same_registers(a: &Registers, b: &Registers) -> bool {
-    same_set(&a.main, &b.main)
-        & same_set(&a.alternate, &b.alternate)
-        & same_bytes(a, b)
-        & same_words(a, b)
-        & same_modes(a, b)
-}
-
-fn same_asked(a: &Asked, b: &Asked) -> bool {
-    (a.nmi == b.nmi) & (a.int0 == b.int0) & (a.int1 == b.int1) & (a.int2 == b.int2)
-}
-
-fn same_panel(a: &Probe, b: &Probe) -> bool {
-    same_asked(&a.asked, &b.asked)
-        & (a.acknowledged == b.acknowledged)
-        & (a.told == b.told)
-        & (a.last_write == b.last_write)
-        & (a.last_read == b.last_read)
-}
-
 // A sum over the first 64 KiB of memory.
 fn sum<M: Memory>(m: &Machine<M, Probe>) -> u32 {
-    let mut sum = 0u32;
-    for at in 0..0x1_0000u32 {
-        let byte = match m.memory.read(at) {
-            Ok(byte) => byte,
-            Err(_) => 0,
-        };
-        sum = sum.wrapping_mul(31).wrapping_add(u32::from(byte));
-    }
-    sum
+    (0..0x1_0000u32).fold(0, |sum: u32, at| {
+        let byte = m.memory.read(at).unwrap_or(0);
+        sum.wrapping_mul(31).wrapping_add(u32::from(byte))
+    })
 }
 
 // A step is denied and tells where PC stands.
@@ -243,17 +187,8 @@ pub fn denied<M: Memory>(
 ) -> Result<(), Fail> {
     let (cpu, window, panel, before) = (m.cpu, m.window, m.panel, sum(m));
     refused(rt, m, denial);
-    assert!(rt; same_registers(&m.cpu, &cpu));
-    assert!(rt; same_panel(&m.panel, &panel));
-    assert!(rt; m.window == window && sum(m) == before);
+    assert!(rt; m.cpu == cpu && m.window == window);
+    assert!(rt; m.panel == panel);
+    assert_eq!(rt; sum(m), before);
     Ok(())
-}
-
-pub fn listed(list: &[u8], byte: u8) -> bool {
-    for one in list {
-        if *one == byte {
-            return true;
-        }
-    }
-    false
 }

@@ -77,7 +77,7 @@ pub enum Seen {
 
 fn give_panel(panel: &mut Probe, given: Given) {
     match given {
-        Given::Asks(line) => set_line(panel, line, true),
+        Given::Asks(line) => panel.asked.set(line, true),
         Given::Keeps => panel.keeps = true,
         Given::Full => panel.full = true,
         Given::Gives(byte) => panel.byte = byte,
@@ -205,8 +205,8 @@ fn follow<M: Memory>(rt: &impl Abort, m: &mut Machine<M, Probe>, then: Then) -> 
         Then::Serves(line, cycles, states, pc) => serves(rt, m, line, (cycles, states), pc),
         Then::Denies(denial) => denied(rt, m, denial),
         Then::Has(ief1, ief2) => enables(rt, m, ief1, ief2),
-        Then::Asks(line) => Ok(set_line(&mut m.panel, line, true)),
-        Then::Drops(line) => Ok(set_line(&mut m.panel, line, false)),
+        Then::Asks(line) => Ok(m.panel.asked.set(line, true)),
+        Then::Drops(line) => Ok(m.panel.asked.set(line, false)),
         Then::Fills(full) => {
             m.panel.full = full;
             Ok(())

@@ -38,38 +38,68 @@ fn counted(r: u8, bytes: u8) -> u8 {
     r / 128 * 128 + r.wrapping_add(bytes) % 128
 }
 
-// What a trap changes of the registers: nothing but these four. The second opcode byte is undefined, or the third.
-fn after_trap(before: Registers, third: bool) -> Registers {
-    let (ufo, bytes) = if third { (0xC0, 3) } else { (0x80, 2) };
+// The opcode byte that is undefined.
+#[derive(Clone, Copy)]
+enum Undefined {
+    Second,
+    Third,
+}
+
+impl Undefined {
+    // TRAP, with UFO for the third byte.
+    fn trap(self) -> u8 {
+        match self {
+            Undefined::Second => 0x80,
+            Undefined::Third => 0xC0,
+        }
+    }
+
+    // How many opcode bytes were read.
+    fn bytes(self) -> u8 {
+        match self {
+            Undefined::Second => 2,
+            Undefined::Third => 3,
+        }
+    }
+}
+
+// What a trap changes of the registers: nothing but these four.
+fn after_trap(before: Registers, undefined: Undefined) -> Registers {
     Registers {
-        itc: ufo + before.itc % 64,
+        itc: undefined.trap() | before.itc % 64,
         pc: 0,
         sp: before.sp.wrapping_sub(2),
-        r: counted(before.r, bytes),
+        r: counted(before.r, undefined.bytes()),
         ..before
     }
 }
 
-// PC plus 1, or plus 2, is pushed.
+// The address of the undefined byte is pushed, a displacement not counted.
 fn trapped<M: Memory>(
     rt: &impl Abort,
     m: &Machine<M, Probe>,
     before: Registers,
-    third: bool,
+    undefined: Undefined,
 ) -> Result<(), Fail> {
-    let past = if third { 2 } else { 1 };
-    assert!(rt; same_registers(&m.cpu, &after_trap(before, third)));
+    let past = match undefined {
+        Undefined::Second => 1,
+        Undefined::Third => 2,
+    };
+    assert!(rt; m.cpu == after_trap(before, undefined));
     has(rt, m, m.cpu.sp, &before.pc.wrapping_add(past).to_le_bytes())
 }
 
-fn traps<M: Memory>(rt: &impl Abort, m: &mut Machine<M, Probe>, third: bool) -> Result<(), Fail> {
+fn traps<M: Memory>(
+    rt: &impl Abort,
+    m: &mut Machine<M, Probe>,
+    undefined: Undefined,
+) -> Result<(), Fail> {
     let before = m.cpu;
-    if third {
-        takes(rt, m, 6, 18);
-    } else {
-        takes(rt, m, 4, 12);
+    match undefined {
+        Undefined::Second => takes(rt, m, 4, 12),
+        Undefined::Third => takes(rt, m, 6, 18),
     }
-    trapped(rt, m, before, third)
+    trapped(rt, m, before, undefined)
 }
 
 // A step is taken, and ITC is as it was.
@@ -80,58 +110,67 @@ fn executes<M: Memory>(rt: &impl Abort, m: &mut Machine<M, Probe>) -> Result<(),
     Ok(())
 }
 
-// One program from fresh registers with this ITC. It answers how many bytes were undefined: 1 or 0.
+// A program, and which of its bytes is undefined, if any.
+#[derive(Clone, Copy)]
+struct Trial {
+    program: [u8; 4],
+    undefined: Option<Undefined>,
+}
+
+// One program from fresh registers with this ITC.
 fn one<M: Memory>(
     rt: &impl Abort,
     m: &mut Machine<M, Probe>,
-    program: [u8; 4],
     itc: u8,
-    defined: bool,
-    third: bool,
-) -> Result<u32, Fail> {
+    trial: Trial,
+) -> Result<(), Fail> {
     m.cpu = Registers { itc, ..ready() };
-    put(m, START, &program)?;
-    if defined {
-        executes(rt, m)?;
-        Ok(0)
-    } else {
-        traps(rt, m, third)?;
-        Ok(1)
+    put(m, START, &trial.program)?;
+    match trial.undefined {
+        None => executes(rt, m),
+        Some(undefined) => traps(rt, m, undefined),
     }
+}
+
+// A program for each byte. It answers how many had an undefined one.
+fn all<M: Memory, F: Fn(u8) -> Trial>(
+    rt: &impl Abort,
+    m: &mut Machine<M, Probe>,
+    itc: u8,
+    trial: F,
+) -> Result<u32, Fail>
+    requires { F.IsAlwaysCallable trial }
+{
+    let mut undefined = 0u32;
+    for byte in 0..=255 {
+        let trial = trial(byte);
+        one(rt, m, itc, trial)?;
+        undefined = undefined.wrapping_add(u32::from(trial.undefined.is_some()));
+    }
+    Ok(undefined)
 }
 
 // Behind DDH CBH a defined third byte follows.
-fn second_page<M: Memory>(
-    rt: &impl Abort,
-    m: &mut Machine<M, Probe>,
-    prefix: u8,
-    list: &[u8],
-    lists_defined: bool,
-    itc: u8,
-) -> Result<u32, Fail> {
-    let mut undefined = 0u32;
-    for byte in 0..=255 {
-        let defined = listed(list, byte) == lists_defined;
-        let found = one(rt, m, [prefix, byte, 0x00, 0x06], itc, defined, false)?;
-        undefined = undefined.wrapping_add(found);
+fn second(prefix: u8, byte: u8, defined: bool) -> Trial {
+    Trial {
+        program: [prefix, byte, 0x00, 0x06],
+        undefined: if defined {
+            None
+        } else {
+            Some(Undefined::Second)
+        },
     }
-    Ok(undefined)
 }
 
-fn third_page<M: Memory>(
-    rt: &impl Abort,
-    m: &mut Machine<M, Probe>,
-    prefix: u8,
-    list: &[u8],
-    itc: u8,
-) -> Result<u32, Fail> {
-    let mut undefined = 0u32;
-    for byte in 0..=255 {
-        let defined = listed(list, byte);
-        let found = one(rt, m, [prefix, 0xCB, 0x80, byte], itc, defined, true)?;
-        undefined = undefined.wrapping_add(found);
+fn third(prefix: u8, byte: u8, defined: bool) -> Trial {
+    Trial {
+        program: [prefix, 0xCB, 0x80, byte],
+        undefined: if defined {
+            None
+        } else {
+            Some(Undefined::Third)
+        },
     }
-    Ok(undefined)
 }
 
 #[test]
@@ -139,8 +178,10 @@ fn behind_cb_and_ed(rt: HostRuntime) -> Result<(), Fail> {
     let mut bytes = vec![in rt.alloc(); 0u8; 65_536]?;
     let mut m = banked(&mut bytes)?;
     for itc in [0x39, 0x7C, 0xFF] {
-        assert_eq!(rt; second_page(&rt, &mut m, 0xCB, &NOT_CB, false, itc)?, 8);
-        assert_eq!(rt; second_page(&rt, &mut m, 0xED, &ED, true, itc)?, 165);
+        let cb = |byte| second(0xCB, byte, !NOT_CB.contains(&byte));
+        let ed = |byte| second(0xED, byte, ED.contains(&byte));
+        assert_eq!(rt; all(&rt, &mut m, itc, cb)?, 8);
+        assert_eq!(rt; all(&rt, &mut m, itc, ed)?, 165);
     }
     Ok(())
 }
@@ -151,8 +192,10 @@ fn behind_dd_and_fd(rt: HostRuntime) -> Result<(), Fail> {
     let mut m = banked(&mut bytes)?;
     for prefix in [0xDD, 0xFD] {
         for itc in [0x39, 0x7C, 0xFF] {
-            assert_eq!(rt; second_page(&rt, &mut m, prefix, &INDEXED, true, itc)?, 216);
-            assert_eq!(rt; third_page(&rt, &mut m, prefix, &INDEXED_CB, itc)?, 225);
+            let page = |byte| second(prefix, byte, INDEXED.contains(&byte));
+            let behind_cb = |byte| third(prefix, byte, INDEXED_CB.contains(&byte));
+            assert_eq!(rt; all(&rt, &mut m, itc, page)?, 216);
+            assert_eq!(rt; all(&rt, &mut m, itc, behind_cb)?, 225);
         }
     }
     Ok(())
@@ -164,10 +207,12 @@ fn main_page<M: Memory>(
     m: &mut Machine<M, Probe>,
     prefixes: &[u8],
 ) -> Result<(), Fail> {
-    for byte in 0..=255 {
-        if !listed(prefixes, byte) {
-            one(rt, m, [byte, 0, 0, 0], 0x39, true, false)?;
-        }
+    for byte in (0..=255u8).filter(|byte| !prefixes.contains(byte)) {
+        let trial = Trial {
+            program: [byte, 0, 0, 0],
+            undefined: None,
+        };
+        one(rt, m, 0x39, trial)?;
     }
     Ok(())
 }
@@ -184,13 +229,13 @@ fn on_the_main_page(rt: HostRuntime) -> Result<(), Fail> {
 fn at_the_end_of_memory(rt: HostRuntime) -> Result<(), Fail> {
     let mut bytes = vec![in rt.alloc(); 0u8; 65_536]?;
     let mut m = banked(&mut bytes)?;
-    for (pc, r, prefix, third, after) in [
-        (0xFFFF, 0x7E, 0xED, false, 0x00),
-        (0xFFFE, 0xFF, 0xDD, true, 0x82),
+    for (pc, r, prefix, undefined, after) in [
+        (0xFFFF, 0x7E, 0xED, Undefined::Second, 0x00),
+        (0xFFFE, 0xFF, 0xDD, Undefined::Third, 0x82),
     ] {
         m.cpu = Registers { pc, r, ..ready() };
         put(&mut m, pc, &[prefix, 0xCB, 0x05, 0x30])?;
-        traps(&rt, &mut m, third)?;
+        traps(&rt, &mut m, undefined)?;
         assert_eq!(rt; m.cpu.r, after);
     }
     Ok(())

@@ -2,7 +2,7 @@
 ghost use Rattle.check_vectors.specs.Accesses.{behind};
 ghost use Rattle.std.specs.Prelude.{◌≡◌};
 
-#[derive(Clone, Copy)]
+#[derive(Clone, Copy, PartialEq, Eq)]
 pub enum Access {
     Nothing,
     Read(u16),

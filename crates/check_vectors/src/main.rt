@@ -26,61 +26,39 @@ const BYTES: usize = 163_840;
 // How many lines are told of that differ.
 const TOLD: u32 = 20;
 
-// Prints the numbers that differ, if they are to be told, and answers whether there are none.
-fn alike(
+// Prints the numbers that differ.
+fn differences(
     rt: &HostRuntime,
     line: u32,
-    told: bool,
     names: &[&str],
     is: &[u32],
     must: &[u32],
-) -> io::Result<bool> {
-    let mut alike = true;
+) -> io::Result<()> {
     for (name, (is, must)) in names.iter().zip(is.iter().zip(must.iter())) {
         if *is != *must {
-            alike = false;
-            if told {
-                println!(rt; "line {line}: {name} is {is:X}, not {must:X}")?;
-            }
+            println!(rt; "line {line}: {name} is {is:X}, not {must:X}")?;
         }
     }
-    Ok(alike)
+    Ok(())
 }
 
-fn same(rt: &HostRuntime, line: u32, told: bool, is: &Outcome, must: &Outcome) -> io::Result<bool> {
-    let main = alike(
+fn tell(rt: &HostRuntime, line: u32, is: &Outcome, must: &Outcome) -> io::Result<()> {
+    differences(
         rt,
         line,
-        told,
         &outcome::MAIN,
         &outcome::set(&is.cpu.main),
         &outcome::set(&must.cpu.main),
     )?;
-    let alternate = alike(
+    differences(
         rt,
         line,
-        told,
         &outcome::ALTERNATE,
         &outcome::set(&is.cpu.alternate),
         &outcome::set(&must.cpu.alternate),
     )?;
-    let single = alike(
-        rt,
-        line,
-        told,
-        &outcome::SINGLE,
-        &is.single(),
-        &must.single(),
-    )?;
-    let outside = alike(
-        rt,
-        line,
-        told,
-        &outcome::OUTSIDE,
-        &is.outside(),
-        &must.outside(),
-    )?;
-    Ok(main & alternate & single & outside)
+    differences(rt, line, &outcome::SINGLE, &is.single(), &must.single())?;
+    differences(rt, line, &outcome::OUTSIDE, &is.outside(), &must.outside())
 }
 
 // The counts of a whole input.
@@ -124,8 +102,10 @@ fn judge(
         return println!(rt; "line {number} is no vector");
     };
     let is = outcome_of(&vector, bytes, size);
-    let told = counts.differ() < TOLD;
-    let agrees = same(rt, counts.lines, told, &is, &vector.after)?;
+    let agrees = is == vector.after;
+    if !agrees && counts.differ() < TOLD {
+        tell(rt, counts.lines, &is, &vector.after)?;
+    }
     counts.count(vector.source, agrees);
     Ok(())
 }

@@ -4,7 +4,7 @@ use machine::cost::Cost;
 use registers::registers::{InterruptMode, Mode, RegisterSet, Registers};
 use registers::window::Window;
 
-#[derive(Clone, Copy)]
+#[derive(Clone, Copy, PartialEq, Eq)]
 pub struct Outcome {
     pub cpu: Registers,
     pub window: Window,
@@ -17,6 +17,7 @@ pub struct Outcome {
     pub astray: bool,
 }
 
+// One list of names serves both outcomes, so the names stand beside the numbers.
 pub const MAIN: [&str; 8] = ["A", "F", "B", "C", "D", "E", "H", "L"];
 
 pub const ALTERNATE: [&str; 8] = ["A'", "F'", "B'", "C'", "D'", "E'", "H'", "L'"];

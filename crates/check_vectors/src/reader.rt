@@ -3,30 +3,22 @@ use text::hex;
 
 #[derive(Drop)]
 pub struct Reader<'a> {
-    line: &'a [u8],
-    at: usize,
+    rest: &'a [u8],
 }
 
 impl<'a> Reader<'a> {
     pub fn new(line: &'a [u8]) -> Reader<'a> {
-        Reader { line, at: 0 }
+        Reader { rest: line }
     }
 
     fn next(&mut self) -> Option<u8> {
-        match self.line.get(self.at) {
-            Some(character) => {
-                self.at += 1;
-                Some(*character)
-            }
-            None => None,
-        }
+        let (character, rest) = self.rest.split_first()?;
+        self.rest = rest;
+        Some(*character)
     }
 
     pub fn space(&mut self) -> Option<()> {
-        match self.next()? {
-            b' ' => Some(()),
-            _ => None,
-        }
+        (self.next()? == b' ').then_some(())
     }
 
     // One hexadecimal digit.
@@ -72,10 +64,6 @@ impl<'a> Reader<'a> {
 
     // Nothing more.
     pub fn end(&self) -> Option<()> {
-        if self.at == self.line.len() {
-            Some(())
-        } else {
-            None
-        }
+        self.rest.is_empty().then_some(())
     }
 }

@@ -12,10 +12,7 @@ use memory::length::BoardLength;
 use panel::Panel;
 
 fn byte_at<M: Memory>(memory: &M, at: u32) -> u8 {
-    match memory.read(at) {
-        Ok(byte) => byte,
-        Err(_) => 0xFF,
-    }
+    memory.read(at).unwrap_or(0xFF)
 }
 
 fn put<M: Memory>(memory: &mut M, at: u32, byte: u8) {
@@ -24,12 +21,7 @@ fn put<M: Memory>(memory: &mut M, at: u32, byte: u8) {
 
 // Where the bytes at PC stand: the window shows their addresses as they are.
 fn places(pc: u16) -> [u32; 4] {
-    [
-        u32::from(pc),
-        u32::from(pc.wrapping_add(1)),
-        u32::from(pc.wrapping_add(2)),
-        u32::from(pc.wrapping_add(3)),
-    ]
+    [0, 1, 2, 3].map(|behind| u32::from(pc.wrapping_add(behind)))
 }
 
 fn put_code<M: Memory>(memory: &mut M, pc: u16, code: [u8; 4]) {
@@ -39,22 +31,11 @@ fn put_code<M: Memory>(memory: &mut M, pc: u16, code: [u8; 4]) {
 }
 
 fn code<M: Memory>(memory: &M, pc: u16) -> [u8; 4] {
-    let [first, second, third, fourth] = places(pc);
-    [
-        byte_at(memory, first),
-        byte_at(memory, second),
-        byte_at(memory, third),
-        byte_at(memory, fourth),
-    ]
+    places(pc).map(|at| byte_at(memory, at))
 }
 
 fn cells<M: Memory>(memory: &M, vector: &Vector) -> [u8; 3] {
-    let [first, second, third] = vector.cells;
-    [
-        byte_at(memory, first.at),
-        byte_at(memory, second.at),
-        byte_at(memory, third.at),
-    ]
+    vector.cells.map(|cell| byte_at(memory, cell.at))
 }
 
 fn put_all<M: Memory>(memory: &mut M, vector: &Vector) {
@@ -72,13 +53,9 @@ fn take_all<M: Memory>(memory: &mut M, vector: &Vector) {
     put_code(memory, vector.cpu.pc, [0; 4]);
 }
 
-// Whether any byte is not 00.
+// Whether any byte is not 00. All are read, since so many together take less time than a test of each.
 fn any(bytes: &[u8]) -> bool {
-    let mut all = 0;
-    for byte in bytes {
-        all |= *byte;
-    }
-    all != 0
+    bytes.iter().fold(0, |all, byte| all | *byte) != 0
 }
 
 // The step, and all but whether another byte changed; the vector's bytes are 00 again.
@@ -100,10 +77,7 @@ fn stepped<M: Memory + Drop>(memory: M, vector: &Vector) -> Outcome {
     };
     put_all(&mut card.memory, vector);
     // this panel has no step denied
-    let cost = match step(&mut card) {
-        Ok(cost) => cost,
-        Err(_) => nothing,
-    };
+    let cost = step(&mut card).unwrap_or(nothing);
     let cells = cells(&card.memory, vector);
     let code = code(&card.memory, vector.cpu.pc);
     take_all(&mut card.memory, vector);

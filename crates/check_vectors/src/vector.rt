@@ -85,13 +85,12 @@ impl Reader<'_> {
         let cost = self.cost()?;
         let cells = self.cells()?;
         self.end()?;
-        let [first, second, third] = cells;
         let after = Outcome {
             cpu,
             window,
             access,
             cost,
-            cells: [first.after, second.after, third.after],
+            cells: cells.map(|cell| cell.after),
             code,
             astray: false,
         };

@@ -20,12 +20,7 @@ impl Panel for Probe {
     }
 
     fn asks(&self, line: Line) -> bool {
-        match line {
-            Line::Nmi => self.asked.nmi,
-            Line::Int0 => self.asked.int0,
-            Line::Int1 => self.asked.int1,
-            Line::Int2 => self.asked.int2,
-        }
+        self.asked.by(line)
     }
 
     fn int0_byte(&self) -> u8 {
@@ -47,14 +42,8 @@ impl Panel for Probe {
 
     fn acknowledge(&mut self, line: Line) {
         self.acknowledged = Some(line);
-        if self.keeps {
-            return;
-        }
-        match line {
-            Line::Nmi => self.asked.nmi = false,
-            Line::Int0 => self.asked.int0 = false,
-            Line::Int1 => self.asked.int1 = false,
-            Line::Int2 => self.asked.int2 = false,
+        if !self.keeps {
+            self.asked.set(line, false);
         }
     }
 
