@@ -53,7 +53,7 @@ impl One {
         let mut sum = Sum::START;
         for f in 0..=255u8 {
             for value in 0..=255u8 {
-                let (answer, flags) = self.apply(value, Flags::from_byte(f));
+                let (answer, flags) = self.apply(value, Flags::from(f));
                 sum = sum.with_result(answer, flags, mask);
             }
         }

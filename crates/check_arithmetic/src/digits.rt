@@ -21,7 +21,7 @@ impl Digits {
     pub fn sum(self, mask: u8) -> u32 {
         let mut sum = Sum::START;
         for f in 0..=255u8 {
-            let flags = Flags::from_byte(f);
+            let flags = Flags::from(f);
             for a in 0..=255u8 {
                 for b in 0..=255u8 {
                     let ((answer, stored), new) = self.apply(a, b, flags);

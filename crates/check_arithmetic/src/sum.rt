@@ -18,6 +18,6 @@ impl Sum {
 
     // A result: its value, and those of its flags that the mask names.
     pub fn with_result(self, value: u8, flags: Flags, mask: u8) -> Sum {
-        self.with(value).with(flags.to_byte() & mask)
+        self.with(value).with(u8::from(flags) & mask)
     }
 }

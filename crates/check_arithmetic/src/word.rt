@@ -23,7 +23,7 @@ impl Wide {
     pub fn sum(self, mask: u8) -> u32 {
         let mut sum = Sum::START;
         for f in [0, 51, 102, 153, 204, 255] {
-            let flags = Flags::from_byte(f);
+            let flags = Flags::from(f);
             for i in 0..512u16 {
                 for j in 0..512u16 {
                     let (answer, new) = self.apply(i.wrapping_mul(521), j.wrapping_mul(521), flags);

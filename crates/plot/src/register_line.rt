@@ -20,7 +20,7 @@ impl fmt::Display for RegisterLine {
         let pc = HexWord(self.cpu.pc);
         let sp = HexWord(self.cpu.sp);
         let a = HexByte(self.cpu.main.a);
-        let flags = HexByte(self.cpu.main.f.to_byte());
+        let flags = HexByte(u8::from(self.cpu.main.f));
         let cbar = HexByte(self.window.cbar);
         write!(f, "pc={pc} sp={sp} af={a}{flags} cbar={cbar}")
     }
