@@ -3,6 +3,7 @@
 
 pub mod cost;
 mod cycle;
+pub mod outcome;
 mod port;
 pub mod state;
 mod word;

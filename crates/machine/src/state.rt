@@ -9,6 +9,7 @@ pub struct Machine<M, P> {
     pub window: Window,
     pub memory: M,
     pub panel: P,
-    // of the step under way
+    // Of the step under way. Each `requires` bounds it by Below n: the n falls from caller to callee, so that no invariant of the
+    // type can hold it.
     pub spent: Cost,
 }

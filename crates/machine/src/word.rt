@@ -6,7 +6,7 @@ ghost use Rattle.processor.specs.Parts as parts;
 use crate::state::Machine;
 use memory::Memory;
 use operands::address::displaced;
-use operands::index::index;
+use operands::word::Word;
 use panel::Panel;
 use registers::operand::Index;
 
@@ -27,7 +27,7 @@ impl<M: Memory, P: Panel> Machine<M, P> {
         ensures { Gives {n = 0} P.make M.memory P.state (λ p. parts.indexed name p got) self.old result self.new }
     {
         let displacement = self.operand();
-        displaced(index(&self.cpu, name), displacement)
+        displaced(name.get(&self.cpu), displacement)
     }
 
     // The low byte is read, or written, first.

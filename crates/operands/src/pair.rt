@@ -2,74 +2,80 @@
 ghost use Rattle.registers.specs.Operands.{pair_of, pointer_of, stack_pair_of, with_pair, with_stack_pair};
 ghost use Rattle.std.specs.Prelude.{◌≡◌};
 
+use crate::word::Word;
 use arithmetic::flags::Flags;
 use registers::operand::{Pair, Pointer, StackPair};
 use registers::registers::Registers;
 
-pub fn pair(cpu: &Registers, pair: Pair) -> u16
-    ensures { result ≡ pair_of pair cpu.now }
-{
-    match pair {
-        Pair::Bc => u16::from_be_bytes([cpu.main.b, cpu.main.c]),
-        Pair::De => u16::from_be_bytes([cpu.main.d, cpu.main.e]),
-        Pair::Hl => u16::from_be_bytes([cpu.main.h, cpu.main.l]),
-        Pair::Sp => cpu.sp,
-    }
-}
+impl Word for Pair {
+    ghost value = { pair_of };
 
-pub fn set_pair(cpu: &mut Registers, pair: Pair, value: u16)
-    ensures { cpu.new ≡ with_pair pair value cpu.old }
-{
-    let [high, low] = value.to_be_bytes();
-    match pair {
-        Pair::Bc => {
-            cpu.main.b = high;
-            cpu.main.c = low;
+    ghost with_word = { with_pair };
+
+    fn get(self, cpu: &Registers) -> u16 {
+        match self {
+            Pair::Bc => u16::from_be_bytes([cpu.main.b, cpu.main.c]),
+            Pair::De => u16::from_be_bytes([cpu.main.d, cpu.main.e]),
+            Pair::Hl => u16::from_be_bytes([cpu.main.h, cpu.main.l]),
+            Pair::Sp => cpu.sp,
         }
-        Pair::De => {
-            cpu.main.d = high;
-            cpu.main.e = low;
+    }
+
+    fn set(self, cpu: &mut Registers, word: u16) {
+        let [high, low] = word.to_be_bytes();
+        match self {
+            Pair::Bc => {
+                cpu.main.b = high;
+                cpu.main.c = low;
+            }
+            Pair::De => {
+                cpu.main.d = high;
+                cpu.main.e = low;
+            }
+            Pair::Hl => {
+                cpu.main.h = high;
+                cpu.main.l = low;
+            }
+            Pair::Sp => cpu.sp = word,
         }
-        Pair::Hl => {
-            cpu.main.h = high;
-            cpu.main.l = low;
-        }
-        Pair::Sp => cpu.sp = value,
     }
 }
 
 // On the stack AF stands where other pairs have SP.
-pub fn stack_pair(cpu: &Registers, stacked: StackPair) -> u16
-    ensures { result ≡ stack_pair_of stacked cpu.now }
-{
-    match stacked {
-        StackPair::Bc => pair(cpu, Pair::Bc),
-        StackPair::De => pair(cpu, Pair::De),
-        StackPair::Hl => pair(cpu, Pair::Hl),
-        StackPair::Af => u16::from_be_bytes([cpu.main.a, cpu.main.f.to_byte()]),
-    }
-}
+impl Word for StackPair {
+    ghost value = { stack_pair_of };
 
-pub fn set_stack_pair(cpu: &mut Registers, stacked: StackPair, value: u16)
-    ensures { cpu.new ≡ with_stack_pair stacked value cpu.old }
-{
-    match stacked {
-        StackPair::Bc => set_pair(cpu, Pair::Bc, value),
-        StackPair::De => set_pair(cpu, Pair::De, value),
-        StackPair::Hl => set_pair(cpu, Pair::Hl, value),
-        StackPair::Af => {
-            let [high, low] = value.to_be_bytes();
-            cpu.main.a = high;
-            cpu.main.f = Flags::from_byte(low);
+    ghost with_word = { with_stack_pair };
+
+    fn get(self, cpu: &Registers) -> u16 {
+        match self {
+            StackPair::Bc => Pair::Bc.get(cpu),
+            StackPair::De => Pair::De.get(cpu),
+            StackPair::Hl => Pair::Hl.get(cpu),
+            StackPair::Af => u16::from_be_bytes([cpu.main.a, cpu.main.f.to_byte()]),
+        }
+    }
+
+    fn set(self, cpu: &mut Registers, word: u16) {
+        match self {
+            StackPair::Bc => Pair::Bc.set(cpu, word),
+            StackPair::De => Pair::De.set(cpu, word),
+            StackPair::Hl => Pair::Hl.set(cpu, word),
+            StackPair::Af => {
+                let [high, low] = word.to_be_bytes();
+                cpu.main.a = high;
+                cpu.main.f = Flags::from_byte(low);
+            }
         }
     }
 }
 
+// No `From<Pointer> for Pair`: both types are another crate's.
 pub fn pointer(cpu: &Registers, pointer: Pointer) -> u16
     ensures { result ≡ pointer_of pointer cpu.now }
 {
     match pointer {
-        Pointer::Bc => pair(cpu, Pair::Bc),
-        Pointer::De => pair(cpu, Pair::De),
+        Pointer::Bc => Pair::Bc.get(cpu),
+        Pointer::De => Pair::De.get(cpu),
     }
 }

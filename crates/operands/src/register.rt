@@ -1,4 +1,4 @@
-// A byte register, by its name.
+// A byte register, by its name. Functions, since no other type names one: a trait as Word would have one impl.
 ghost use Rattle.registers.specs.Operands.{value_of, with_register};
 ghost use Rattle.std.specs.Prelude.{◌≡◌};
 
