@@ -9,6 +9,7 @@ use decoder::{cb_page, ed_page, indexed_cb_page, indexed_page, main_page};
 use instructions::instruction::Instruction;
 use registers::operand::Index;
 
+// No Result of an instruction: an undefined byte is an answer too, with a length as an instruction has one.
 #[derive(Clone, Copy)]
 pub enum Beginning {
     Instruction(Instruction),

@@ -1,60 +1,49 @@
 // The page behind CBH: rotates, shifts and single bits, of a register or (HL).
 ghost use Rattle.decoder.specs.Cb as of;
 ghost use Rattle.decoder.specs.Field as field;
-ghost use Rattle.std.specs.Prelude.{◌≡◌};
+ghost use Rattle.std.specs.Prelude.{MatchOption, ◌≡◌};
 
-use crate::field::{register, rotate};
+use crate::field::{Fields, register, rotate};
 use instructions::group::bit::Bit;
 use instructions::group::rotation::Rotation;
 use instructions::instruction::Instruction;
+use registers::operand::Register;
 
-fn rotated(y: u8, z: u8) -> Option<Instruction>
-    ensures { result ≡ of.rotated (field.rotate y) (field.register z) }
+fn rotated(fields: Fields) -> Option<Instruction>
+    ensures { result ≡ of.rotated (field.rotate fields.y) (field.register fields.z) }
 {
-    let kind = rotate(y)?;
-    Some(Instruction::Rotate(match register(z) {
-        Some(register) => Rotation::Register(kind, register),
-        None => Rotation::Memory(kind),
-    }))
+    let kind = rotate(fields.y)?;
+    Some(Instruction::Rotate(register(fields.z).map_or(
+        Rotation::Memory(kind),
+        |register| Rotation::Register(kind, register),
+    )))
 }
 
-fn tested(number: u8, z: u8) -> Instruction
-    ensures { result ≡ of.tested number (field.register z) }
+// A single bit, by its number, of a register or of (HL).
+fn bit<R: FnOnce(u8, Register) -> Bit, M: FnOnce(u8) -> Bit>(
+    fields: Fields,
+    of_register: R,
+    of_memory: M,
+) -> Bit
+    requires of_register { R.IsAlwaysCallable of_register }
+    requires of_memory { M.IsAlwaysCallable of_memory }
+    ensures { MatchOption (field.register fields.z) (M.post of_memory fields.y result) (λ register. R.post of_register fields.y register result) }
 {
-    Instruction::Bit(match register(z) {
-        Some(register) => Bit::TestRegister(number, register),
-        None => Bit::TestMemory(number),
-    })
-}
-
-fn reset(number: u8, z: u8) -> Instruction
-    ensures { result ≡ of.reset number (field.register z) }
-{
-    Instruction::Bit(match register(z) {
-        Some(register) => Bit::ResetRegister(number, register),
-        None => Bit::ResetMemory(number),
-    })
-}
-
-fn set(number: u8, z: u8) -> Instruction
-    ensures { result ≡ of.set number (field.register z) }
-{
-    Instruction::Bit(match register(z) {
-        Some(register) => Bit::SetRegister(number, register),
-        None => Bit::SetMemory(number),
-    })
+    match register(fields.z) {
+        Some(register) => of_register(fields.y, register),
+        None => of_memory(fields.y),
+    }
 }
 
 // What a byte behind CBH is; none if it is undefined.
 pub fn decode(byte: u8) -> Option<Instruction>
     ensures { result ≡ of.decoded byte }
 {
-    let y = byte / 8 % 8;
-    let z = byte % 8;
-    match byte / 64 {
-        0 => rotated(y, z),
-        1 => Some(tested(y, z)),
-        2 => Some(reset(y, z)),
-        _ => Some(set(y, z)),
+    let fields = Fields::from(byte);
+    match fields.x {
+        0 => rotated(fields),
+        1 => Some(Instruction::Bit(bit(fields, Bit::TestRegister, Bit::TestMemory))),
+        2 => Some(Instruction::Bit(bit(fields, Bit::ResetRegister, Bit::ResetMemory))),
+        _ => Some(Instruction::Bit(bit(fields, Bit::SetRegister, Bit::SetMemory))),
     }
 }

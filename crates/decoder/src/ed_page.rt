@@ -3,7 +3,7 @@ ghost use Rattle.decoder.specs.Ed as of;
 ghost use Rattle.decoder.specs.Field as field;
 ghost use Rattle.std.specs.Prelude.{◌≡◌};
 
-use crate::field::{direction, pair, register};
+use crate::field::{Fields, direction, pair, register};
 use instructions::group::block::Block;
 use instructions::group::calculation::Arithmetic;
 use instructions::group::call::Call;
@@ -15,75 +15,45 @@ use instructions::instruction::Instruction;
 use registers::operand::Direction;
 use registers::registers::InterruptMode;
 
-fn input_zero(y: u8) -> Option<Instruction>
-    ensures { result ≡ of.input_zero (field.register y) }
+fn low(fields: Fields) -> Option<Instruction>
+    ensures { result ≡ of.low fields.y fields.z }
 {
-    Some(Instruction::Port(Port::InputZero(register(y)?)))
-}
-
-fn output_zero(y: u8) -> Option<Instruction>
-    ensures { result ≡ of.output_zero (field.register y) }
-{
-    Some(Instruction::Port(Port::OutputZero(register(y)?)))
-}
-
-fn input(y: u8) -> Option<Instruction>
-    ensures { result ≡ of.input (field.register y) }
-{
-    Some(Instruction::Port(Port::Input(register(y)?)))
-}
-
-fn output(y: u8) -> Option<Instruction>
-    ensures { result ≡ of.output (field.register y) }
-{
-    Some(Instruction::Port(Port::Output(register(y)?)))
-}
-
-fn tested(y: u8) -> Instruction
-    ensures { result ≡ of.tested (field.register y) }
-{
-    Instruction::Arithmetic(match register(y) {
-        Some(register) => Arithmetic::TestRegister(register),
-        None => Arithmetic::TestMemory,
-    })
-}
-
-fn low(y: u8, z: u8) -> Option<Instruction>
-    ensures { result ≡ of.low y z }
-{
-    match z {
-        0 => input_zero(y),
-        1 => output_zero(y),
-        4 => Some(tested(y)),
+    match fields.z {
+        0 => Some(Instruction::Port(Port::InputZero(register(fields.y)?))),
+        1 => Some(Instruction::Port(Port::OutputZero(register(fields.y)?))),
+        4 => Some(Instruction::Arithmetic(register(fields.y).map_or(
+            Arithmetic::TestMemory,
+            Arithmetic::TestRegister,
+        ))),
         _ => None,
     }
 }
 
-fn with_carry(y: u8) -> Instruction
-    ensures { result ≡ of.with_carry y }
+fn with_carry(fields: Fields) -> Instruction
+    ensures { result ≡ of.with_carry fields.y }
 {
-    Instruction::Arithmetic(match y % 2 {
-        0 => Arithmetic::SubtractWithCarryPair(pair(y / 2)),
-        _ => Arithmetic::AddWithCarryPair(pair(y / 2)),
+    Instruction::Arithmetic(match fields.q() {
+        0 => Arithmetic::SubtractWithCarryPair(pair(fields.p())),
+        _ => Arithmetic::AddWithCarryPair(pair(fields.p())),
     })
 }
 
-fn words(y: u8) -> Instruction
-    ensures { result ≡ of.words y }
+fn words(fields: Fields) -> Instruction
+    ensures { result ≡ of.words fields.y }
 {
-    Instruction::Load(match y % 2 {
-        0 => Load::AddressPair(pair(y / 2)),
-        _ => Load::PairAddress(pair(y / 2)),
+    Instruction::Load(match fields.q() {
+        0 => Load::AddressPair(pair(fields.p())),
+        _ => Load::PairAddress(pair(fields.p())),
     })
 }
 
-fn tests(y: u8) -> Option<Instruction>
-    ensures { result ≡ of.tests y }
+fn tests(fields: Fields) -> Option<Instruction>
+    ensures { result ≡ of.tests fields.y }
 {
-    if y % 2 == 1 {
-        return Some(Instruction::Arithmetic(Arithmetic::Multiply(pair(y / 2))));
+    if fields.q() == 1 {
+        return Some(Instruction::Arithmetic(Arithmetic::Multiply(pair(fields.p()))));
     }
-    match y / 2 {
+    match fields.p() {
         0 => Some(Instruction::Arithmetic(Arithmetic::Negate)),
         1 => None,
         2 => Some(Instruction::Arithmetic(Arithmetic::TestByte)),
@@ -127,18 +97,18 @@ fn accumulator(y: u8) -> Option<Instruction>
     }
 }
 
-fn middle(y: u8, z: u8) -> Option<Instruction>
-    ensures { result ≡ of.middle y z }
+fn middle(fields: Fields) -> Option<Instruction>
+    ensures { result ≡ of.middle fields.y fields.z }
 {
-    match z {
-        0 => input(y),
-        1 => output(y),
-        2 => Some(with_carry(y)),
-        3 => Some(words(y)),
-        4 => tests(y),
-        5 => returns(y),
-        6 => modes(y),
-        _ => accumulator(y),
+    match fields.z {
+        0 => Some(Instruction::Port(Port::Input(register(fields.y)?))),
+        1 => Some(Instruction::Port(Port::Output(register(fields.y)?))),
+        2 => Some(with_carry(fields)),
+        3 => Some(words(fields)),
+        4 => tests(fields),
+        5 => returns(fields.y),
+        6 => modes(fields.y),
+        _ => accumulator(fields.y),
     }
 }
 
@@ -191,12 +161,11 @@ fn blocks(p: u8, way: Direction, z: u8) -> Option<Instruction>
 pub fn decode(byte: u8) -> Option<Instruction>
     ensures { result ≡ of.decoded byte }
 {
-    let y = byte / 8 % 8;
-    let z = byte % 8;
-    match byte / 64 {
-        0 => low(y, z),
-        1 => middle(y, z),
-        2 => blocks(y / 2, direction(y % 2), z),
+    let fields = Fields::from(byte);
+    match fields.x {
+        0 => low(fields),
+        1 => middle(fields),
+        2 => blocks(fields.p(), direction(fields.q()), fields.z),
         _ => None,
     }
 }

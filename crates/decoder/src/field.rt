@@ -1,11 +1,50 @@
-// The fields of an opcode byte: bits 7 and 6 (x), 5 to 3 (y) and 2 to 0 (z), and what the operand fields name.
+// The fields of an opcode byte, and what the operand fields name. These are functions and no impl of From: a field is a bare
+// number, so that From would need a type round it, and pair(fields.p()) would become Pair::from(PairField(fields.p())).
 ghost use Rattle.decoder.specs.Field as of;
-ghost use Rattle.std.specs.Prelude.{◌≡◌};
+ghost use Rattle.std.specs.Prelude.{◌≡◌, ◌<◌};
 
 use arithmetic::operation::Operation;
 use arithmetic::rotate::Rotate;
 use instructions::group::calculation::Addend;
 use registers::operand::{Condition, Direction, Pair, Register, StackPair};
+
+// Bits 7 and 6 (x), 5 to 3 (y) and 2 to 0 (z) of an opcode byte.
+#[derive(Clone, Copy)]
+pub(crate) struct Fields {
+    pub(crate) x: u8,
+    pub(crate) y: u8,
+    pub(crate) z: u8,
+    ghost y_below: { y < 8 },
+    ghost z_below: { z < 8 },
+}
+
+impl From<u8> for Fields {
+    ghost from_gives = { λ byte fields. (fields.x ≡ of.x byte) × (fields.y ≡ of.y byte) × (fields.z ≡ of.z byte) };
+
+    fn from(byte: u8) -> Fields {
+        Fields {
+            x: byte / 64,
+            y: byte / 8 % 8,
+            z: byte % 8,
+        }
+    }
+}
+
+impl Fields {
+    // Bits 5 and 4.
+    pub(crate) fn p(self) -> u8
+        ensures { result ≡ of.p self.y }
+    {
+        self.y / 2
+    }
+
+    // Bit 3.
+    pub(crate) fn q(self) -> u8
+        ensures { result ≡ of.q self.y }
+    {
+        self.y % 2
+    }
+}
 
 // The register of a field; 6 names none: it is (HL), or (IX+d) behind DDH.
 pub(crate) fn register(field: u8) -> Option<Register>

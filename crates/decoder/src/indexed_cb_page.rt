@@ -3,7 +3,7 @@ ghost use Rattle.decoder.specs.Field as field;
 ghost use Rattle.decoder.specs.IndexedCb as of;
 ghost use Rattle.std.specs.Prelude.{◌≡◌};
 
-use crate::field::rotate;
+use crate::field::{Fields, rotate};
 use instructions::group::bit::Bit;
 use instructions::group::rotation::Rotation;
 use instructions::instruction::Instruction;
@@ -15,14 +15,14 @@ fn rotated(index: Index, y: u8) -> Option<Instruction>
     Some(Instruction::Rotate(Rotation::Indexed(rotate(y)?, index)))
 }
 
-fn operated(index: Index, x: u8, y: u8) -> Option<Instruction>
-    ensures { result ≡ of.operated index x y }
+fn operated(index: Index, fields: Fields) -> Option<Instruction>
+    ensures { result ≡ of.operated index fields.x fields.y }
 {
-    match x {
-        0 => rotated(index, y),
-        1 => Some(Instruction::Bit(Bit::TestIndexed(y, index))),
-        2 => Some(Instruction::Bit(Bit::ResetIndexed(y, index))),
-        _ => Some(Instruction::Bit(Bit::SetIndexed(y, index))),
+    match fields.x {
+        0 => rotated(index, fields.y),
+        1 => Some(Instruction::Bit(Bit::TestIndexed(fields.y, index))),
+        2 => Some(Instruction::Bit(Bit::ResetIndexed(fields.y, index))),
+        _ => Some(Instruction::Bit(Bit::SetIndexed(fields.y, index))),
     }
 }
 
@@ -30,8 +30,9 @@ fn operated(index: Index, x: u8, y: u8) -> Option<Instruction>
 pub fn decode(index: Index, byte: u8) -> Option<Instruction>
     ensures { result ≡ of.decoded index byte }
 {
-    match byte % 8 {
-        6 => operated(index, byte / 64, byte / 8 % 8),
+    let fields = Fields::from(byte);
+    match fields.z {
+        6 => operated(index, fields),
         _ => None,
     }
 }

@@ -3,7 +3,7 @@ ghost use Rattle.decoder.specs.Field as field;
 ghost use Rattle.decoder.specs.Indexed as of;
 ghost use Rattle.std.specs.Prelude.{◌≡◌};
 
-use crate::field::{addend, operation, register};
+use crate::field::{Fields, addend, operation, register};
 use crate::page::Second;
 use instructions::group::calculation::Arithmetic;
 use instructions::group::exchange::Exchange;
@@ -12,16 +12,16 @@ use instructions::group::load::Load;
 use instructions::instruction::Instruction;
 use registers::operand::Index;
 
-fn words(index: Index, y: u8) -> Second
-    ensures { result ≡ of.words index y }
+fn words(index: Index, fields: Fields) -> Second
+    ensures { result ≡ of.words index fields.y }
 {
-    if y % 2 == 1 {
+    if fields.q() == 1 {
         return Second::Instruction(Instruction::Arithmetic(Arithmetic::AddIndex(
             index,
-            addend(y / 2),
+            addend(fields.p()),
         )));
     }
-    match y {
+    match fields.y {
         4 => Second::Instruction(Instruction::Load(Load::IndexWord(index))),
         _ => Second::Undefined,
     }
@@ -47,13 +47,13 @@ fn counted_words(index: Index, y: u8) -> Second
     }
 }
 
-fn low(index: Index, y: u8, z: u8) -> Second
-    ensures { result ≡ of.low index y z }
+fn low(index: Index, fields: Fields) -> Second
+    ensures { result ≡ of.low index fields.y fields.z }
 {
-    match (y, z) {
-        (_, 1) => words(index, y),
-        (_, 2) => addressed(index, y),
-        (_, 3) => counted_words(index, y),
+    match (fields.y, fields.z) {
+        (_, 1) => words(index, fields),
+        (_, 2) => addressed(index, fields.y),
+        (_, 3) => counted_words(index, fields.y),
         (6, 4) => Second::Instruction(Instruction::Arithmetic(Arithmetic::IncrementIndexed(index))),
         (6, 5) => Second::Instruction(Instruction::Arithmetic(Arithmetic::DecrementIndexed(index))),
         (6, 6) => Second::Instruction(Instruction::Load(Load::IndexedByte(index))),
@@ -61,10 +61,10 @@ fn low(index: Index, y: u8, z: u8) -> Second
     }
 }
 
-fn moved(index: Index, y: u8, z: u8) -> Second
-    ensures { result ≡ of.moved index (field.register y) (field.register z) }
+fn moved(index: Index, fields: Fields) -> Second
+    ensures { result ≡ of.moved index (field.register fields.y) (field.register fields.z) }
 {
-    match (register(y), register(z)) {
+    match (register(fields.y), register(fields.z)) {
         (Some(to), None) => Second::Instruction(Instruction::Load(Load::RegisterIndexed(
             to, index,
         ))),
@@ -75,11 +75,14 @@ fn moved(index: Index, y: u8, z: u8) -> Second
     }
 }
 
-fn operated(index: Index, y: u8, z: u8) -> Second
-    ensures { result ≡ of.operated index (field.operation y) z }
+fn operated(index: Index, fields: Fields) -> Second
+    ensures { result ≡ of.operated index (field.operation fields.y) fields.z }
 {
-    match z {
-        6 => Second::Instruction(Instruction::Arithmetic(Arithmetic::Indexed(operation(y), index))),
+    match fields.z {
+        6 => Second::Instruction(Instruction::Arithmetic(Arithmetic::Indexed(
+            operation(fields.y),
+            index,
+        ))),
         _ => Second::Undefined,
     }
 }
@@ -105,12 +108,12 @@ fn others(index: Index, y: u8) -> Second
     }
 }
 
-fn high(index: Index, y: u8, z: u8) -> Second
-    ensures { result ≡ of.high index y z }
+fn high(index: Index, fields: Fields) -> Second
+    ensures { result ≡ of.high index fields.y fields.z }
 {
-    match (y, z) {
-        (_, 1) => popped(index, y),
-        (_, 3) => others(index, y),
+    match (fields.y, fields.z) {
+        (_, 1) => popped(index, fields.y),
+        (_, 3) => others(index, fields.y),
         (4, 5) => Second::Instruction(Instruction::Exchange(Exchange::PushIndex(index))),
         _ => Second::Undefined,
     }
@@ -120,12 +123,11 @@ fn high(index: Index, y: u8, z: u8) -> Second
 pub fn decode(index: Index, byte: u8) -> Second
     ensures { result ≡ of.decoded index byte }
 {
-    let y = byte / 8 % 8;
-    let z = byte % 8;
-    match byte / 64 {
-        0 => low(index, y, z),
-        1 => moved(index, y, z),
-        2 => operated(index, y, z),
-        _ => high(index, y, z),
+    let fields = Fields::from(byte);
+    match fields.x {
+        0 => low(index, fields),
+        1 => moved(index, fields),
+        2 => operated(index, fields),
+        _ => high(index, fields),
     }
 }

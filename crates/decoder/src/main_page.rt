@@ -1,9 +1,9 @@
 // The main page: what a first byte is.
-ghost use Rattle.std.specs.Prelude.{◌≡◌, ◌<◌};
+ghost use Rattle.std.specs.Prelude.{◌≡◌};
 ghost use Rattle.decoder.specs.Field as field;
 ghost use Rattle.decoder.specs.Main as of;
 
-use crate::field::{condition, operation, pair, register, stack_pair};
+use crate::field::{Fields, condition, operation, pair, register, stack_pair};
 use crate::page::{First, Page};
 use arithmetic::rotate::Rotate;
 use instructions::group::calculation::Arithmetic;
@@ -32,12 +32,12 @@ fn relative(y: u8) -> Instruction
     }
 }
 
-fn words(y: u8) -> Instruction
-    ensures { result ≡ of.words y }
+fn words(fields: Fields) -> Instruction
+    ensures { result ≡ of.words fields.y }
 {
-    match y % 2 {
-        0 => Instruction::Load(Load::PairWord(pair(y / 2))),
-        _ => Instruction::Arithmetic(Arithmetic::AddPair(pair(y / 2))),
+    match fields.q() {
+        0 => Instruction::Load(Load::PairWord(pair(fields.p()))),
+        _ => Instruction::Arithmetic(Arithmetic::AddPair(pair(fields.p()))),
     }
 }
 
@@ -56,39 +56,12 @@ fn indirect(y: u8) -> Instruction
     }
 }
 
-fn counted_words(y: u8) -> Instruction
-    ensures { result ≡ of.counted_words y }
+fn counted_words(fields: Fields) -> Instruction
+    ensures { result ≡ of.counted_words fields.y }
 {
-    match y % 2 {
-        0 => Instruction::Arithmetic(Arithmetic::IncrementPair(pair(y / 2))),
-        _ => Instruction::Arithmetic(Arithmetic::DecrementPair(pair(y / 2))),
-    }
-}
-
-fn incremented(y: u8) -> Instruction
-    ensures { result ≡ of.incremented (field.register y) }
-{
-    match register(y) {
-        Some(register) => Instruction::Arithmetic(Arithmetic::IncrementRegister(register)),
-        None => Instruction::Arithmetic(Arithmetic::IncrementMemory),
-    }
-}
-
-fn decremented(y: u8) -> Instruction
-    ensures { result ≡ of.decremented (field.register y) }
-{
-    match register(y) {
-        Some(register) => Instruction::Arithmetic(Arithmetic::DecrementRegister(register)),
-        None => Instruction::Arithmetic(Arithmetic::DecrementMemory),
-    }
-}
-
-fn set_to_byte(y: u8) -> Instruction
-    ensures { result ≡ of.set_to_byte (field.register y) }
-{
-    match register(y) {
-        Some(register) => Instruction::Load(Load::RegisterByte(register)),
-        None => Instruction::Load(Load::MemoryByte),
+    match fields.q() {
+        0 => Instruction::Arithmetic(Arithmetic::IncrementPair(pair(fields.p()))),
+        _ => Instruction::Arithmetic(Arithmetic::DecrementPair(pair(fields.p()))),
     }
 }
 
@@ -107,25 +80,31 @@ fn accumulator(y: u8) -> Instruction
     }
 }
 
-fn low(y: u8, z: u8) -> Instruction
-    ensures { result ≡ of.low y z }
+fn low(fields: Fields) -> Instruction
+    ensures { result ≡ of.low fields.y fields.z }
 {
-    match z {
-        0 => relative(y),
-        1 => words(y),
-        2 => indirect(y),
-        3 => counted_words(y),
-        4 => incremented(y),
-        5 => decremented(y),
-        6 => set_to_byte(y),
-        _ => accumulator(y),
+    match fields.z {
+        0 => relative(fields.y),
+        1 => words(fields),
+        2 => indirect(fields.y),
+        3 => counted_words(fields),
+        4 => Instruction::Arithmetic(register(fields.y).map_or(
+            Arithmetic::IncrementMemory,
+            Arithmetic::IncrementRegister,
+        )),
+        5 => Instruction::Arithmetic(register(fields.y).map_or(
+            Arithmetic::DecrementMemory,
+            Arithmetic::DecrementRegister,
+        )),
+        6 => Instruction::Load(register(fields.y).map_or(Load::MemoryByte, Load::RegisterByte)),
+        _ => accumulator(fields.y),
     }
 }
 
-fn moved(y: u8, z: u8) -> Instruction
-    ensures { result ≡ of.moved (field.register y) (field.register z) }
+fn moved(fields: Fields) -> Instruction
+    ensures { result ≡ of.moved (field.register fields.y) (field.register fields.z) }
 {
-    match (register(y), register(z)) {
+    match (register(fields.y), register(fields.z)) {
         (Some(to), Some(from)) => Instruction::Load(Load::RegisterRegister(to, from)),
         (Some(to), None) => Instruction::Load(Load::RegisterMemory(to)),
         (None, Some(from)) => Instruction::Load(Load::MemoryRegister(from)),
@@ -133,22 +112,23 @@ fn moved(y: u8, z: u8) -> Instruction
     }
 }
 
-fn operated(y: u8, z: u8) -> Instruction
-    ensures { result ≡ of.operated (field.operation y) (field.register z) }
+fn operated(fields: Fields) -> Instruction
+    ensures { result ≡ of.operated (field.operation fields.y) (field.register fields.z) }
 {
-    match register(z) {
-        Some(register) => Instruction::Arithmetic(Arithmetic::Register(operation(y), register)),
-        None => Instruction::Arithmetic(Arithmetic::Memory(operation(y))),
-    }
+    let operation = operation(fields.y);
+    Instruction::Arithmetic(register(fields.z).map_or(
+        Arithmetic::Memory(operation),
+        |register| Arithmetic::Register(operation, register),
+    ))
 }
 
-fn popped(y: u8) -> Instruction
-    ensures { result ≡ of.popped y }
+fn popped(fields: Fields) -> Instruction
+    ensures { result ≡ of.popped fields.y }
 {
-    if y % 2 == 0 {
-        return Instruction::Exchange(Exchange::Pop(stack_pair(y / 2)));
+    if fields.q() == 0 {
+        return Instruction::Exchange(Exchange::Pop(stack_pair(fields.p())));
     }
-    match y / 2 {
+    match fields.p() {
         0 => Instruction::Call(Call::Return),
         1 => Instruction::Exchange(Exchange::Alternates),
         2 => Instruction::Jump(Jump::Hl),
@@ -171,13 +151,13 @@ fn others(y: u8) -> First
     }
 }
 
-fn pushed(y: u8) -> First
-    ensures { result ≡ of.pushed y }
+fn pushed(fields: Fields) -> First
+    ensures { result ≡ of.pushed fields.y }
 {
-    if y % 2 == 0 {
-        return First::Instruction(Instruction::Exchange(Exchange::Push(stack_pair(y / 2))));
+    if fields.q() == 0 {
+        return First::Instruction(Instruction::Exchange(Exchange::Push(stack_pair(fields.p()))));
     }
-    match y / 2 {
+    match fields.p() {
         0 => First::Instruction(Instruction::Call(Call::Always)),
         1 => First::Prefix(Page::Indexed(Index::Ix)),
         2 => First::Prefix(Page::Extended),
@@ -185,19 +165,18 @@ fn pushed(y: u8) -> First
     }
 }
 
-fn high(y: u8, z: u8) -> First
-    requires { y < 8 }
-    ensures { result ≡ of.high y z }
+fn high(fields: Fields) -> First
+    ensures { result ≡ of.high fields.y fields.z }
 {
-    match z {
-        0 => First::Instruction(Instruction::Call(Call::ReturnIf(condition(y)))),
-        1 => First::Instruction(popped(y)),
-        2 => First::Instruction(Instruction::Jump(Jump::If(condition(y)))),
-        3 => others(y),
-        4 => First::Instruction(Instruction::Call(Call::If(condition(y)))),
-        5 => pushed(y),
-        6 => First::Instruction(Instruction::Arithmetic(Arithmetic::Byte(operation(y)))),
-        _ => First::Instruction(Instruction::Call(Call::Restart(y * 8))),
+    match fields.z {
+        0 => First::Instruction(Instruction::Call(Call::ReturnIf(condition(fields.y)))),
+        1 => First::Instruction(popped(fields)),
+        2 => First::Instruction(Instruction::Jump(Jump::If(condition(fields.y)))),
+        3 => others(fields.y),
+        4 => First::Instruction(Instruction::Call(Call::If(condition(fields.y)))),
+        5 => pushed(fields),
+        6 => First::Instruction(Instruction::Arithmetic(Arithmetic::Byte(operation(fields.y)))),
+        _ => First::Instruction(Instruction::Call(Call::Restart(fields.y * 8))),
     }
 }
 
@@ -205,12 +184,11 @@ fn high(y: u8, z: u8) -> First
 pub fn decode(byte: u8) -> First
     ensures { result ≡ of.decoded byte }
 {
-    let y = byte / 8 % 8;
-    let z = byte % 8;
-    match byte / 64 {
-        0 => First::Instruction(low(y, z)),
-        1 => First::Instruction(moved(y, z)),
-        2 => First::Instruction(operated(y, z)),
-        _ => high(y, z),
+    let fields = Fields::from(byte);
+    match fields.x {
+        0 => First::Instruction(low(fields)),
+        1 => First::Instruction(moved(fields)),
+        2 => First::Instruction(operated(fields)),
+        _ => high(fields),
     }
 }

@@ -10,14 +10,15 @@ pub enum Page {
     Indexed(Index),
 }
 
-// A first byte is never undefined.
+// A first byte is never undefined. A prefix is neither nothing nor a failure, so that this is no Option and no Result.
 #[derive(Clone, Copy)]
 pub enum First {
     Instruction(Instruction),
     Prefix(Page),
 }
 
-// A byte behind DDH or FDH. CBH leads on: a displacement and one more opcode byte follow.
+// A byte behind DDH or FDH. CBH leads on: a displacement and one more opcode byte follow. Undefined stands among the three, since
+// an Option of the other two would put Some round each answer of the page, where no `?` would take one off.
 #[derive(Clone, Copy)]
 pub enum Second {
     Instruction(Instruction),
