@@ -6,15 +6,14 @@ ghost use Rattle.processor.specs.Bit.{bits_of};
 ghost use Rattle.std.specs.Prelude.{◌≡◌};
 
 use crate::byte_change::{at_hl, behind_index, in_register};
-use crate::change::Change;
+use crate::change::{Reset, Set};
 use arithmetic::bits;
 use instructions::group::bit::Bit;
 use machine::state::Machine;
 use memory::Memory;
 use operands::address::displaced;
-use operands::index::index;
-use operands::pair::pair;
 use operands::register::byte;
+use operands::word::Word;
 use panel::Panel;
 use registers::operand::{Index, Pair, Register};
 use registers::registers::Registers;
@@ -28,17 +27,12 @@ pub fn on_bit<M: Memory, P: Panel>(m: &mut Machine<M, P>, form: Bit, displacemen
         Bit::TestRegister(number, register) => test_register(m, number, register),
         Bit::TestMemory(number) => test_memory(m, number),
         Bit::TestIndexed(number, name) => test_indexed(m, number, name, displacement),
-        Bit::ResetRegister(number, register) => in_register(m, Change::Reset(number), register),
-        Bit::ResetMemory(number) => at_hl(m, Change::Reset(number)),
-        Bit::ResetIndexed(number, name) => behind_index(
-            m,
-            Change::Reset(number),
-            name,
-            displacement,
-        ),
-        Bit::SetRegister(number, register) => in_register(m, Change::Set(number), register),
-        Bit::SetMemory(number) => at_hl(m, Change::Set(number)),
-        Bit::SetIndexed(number, name) => behind_index(m, Change::Set(number), name, displacement),
+        Bit::ResetRegister(number, register) => in_register(m, Reset(number), register),
+        Bit::ResetMemory(number) => at_hl(m, Reset(number)),
+        Bit::ResetIndexed(number, name) => behind_index(m, Reset(number), name, displacement),
+        Bit::SetRegister(number, register) => in_register(m, Set(number), register),
+        Bit::SetMemory(number) => at_hl(m, Set(number)),
+        Bit::SetIndexed(number, name) => behind_index(m, Set(number), name, displacement),
     }
 }
 
@@ -64,7 +58,7 @@ fn test_memory<M: Memory, P: Panel>(m: &mut Machine<M, P>, number: u8)
     requires { Below 500 m.old }
     ensures { Ends P.make M.memory P.state (bits_of (form.TestMemory number) 0) m.old m.new }
 {
-    let at = pair(&m.cpu, Pair::Hl);
+    let at = Pair::Hl.get(&m.cpu);
     let value = m.read(at);
     test(&mut m.cpu, number, value);
 }
@@ -79,7 +73,7 @@ fn test_indexed<M: Memory, P: Panel>(
     requires { Below 500 m.old }
     ensures { Ends P.make M.memory P.state (bits_of (form.TestIndexed number name) displacement) m.old m.new }
 {
-    let at = displaced(index(&m.cpu, name), displacement);
+    let at = displaced(name.get(&m.cpu), displacement);
     let value = m.read(at);
     test(&mut m.cpu, number, value);
 }

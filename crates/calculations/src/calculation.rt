@@ -1,23 +1,30 @@
 // Arithmetic and logic of bytes and of words, behind their opcode bytes.
 ghost use Rattle.instructions.specs.declared.group.calculation.Arithmetic.TheVariants as form;
-ghost use Rattle.machine.specs.Machines.{Below, Ends};
+ghost use Rattle.arithmetic.specs.declared.flags.Flags.{Flags};
+ghost use Rattle.cycles.specs.Tree as tree;
+ghost use Rattle.machine.specs.Machines.{Below, Ends, Gives, got};
 ghost use Rattle.processor.specs.Arithmetic as of;
 ghost use Rattle.processor.specs.Arithmetic.{calculates};
-ghost use Rattle.std.specs.Prelude.{◌≡◌};
+ghost use Rattle.processor.specs.Parts as parts;
+ghost use Rattle.registers.specs.Operands.{along, hl, value_of};
+ghost use Rattle.registers.specs.Registers.{with_f};
+ghost use Rattle.std.specs.Prelude.{◌≡◌, ℕ};
 
 use crate::byte_change::{at_hl, at_index, in_register};
-use crate::change::Change;
+use crate::change::{Decrement, Increment};
+use arithmetic::flags::Flags;
 use arithmetic::multiply::multiply;
 use arithmetic::operation::Operation;
 use arithmetic::{add, logic, port, wide};
 use instructions::group::calculation::{Addend, Arithmetic};
+use machine::outcome::take;
 use machine::state::Machine;
 use memory::Memory;
-use operands::index::{index, set_index};
-use operands::pair::{pair, set_pair};
+use operands::address::along;
 use operands::register::byte;
+use operands::word::Word;
 use panel::Panel;
-use registers::operand::{Index, Pair, Register};
+use registers::operand::{Direction, Index, Pair, Register};
 use registers::registers::Registers;
 
 // A calculation.
@@ -26,30 +33,64 @@ pub fn calculate<M: Memory, P: Panel>(m: &mut Machine<M, P>, form: Arithmetic)
     ensures { Ends P.make M.memory P.state (calculates form) m.old m.new }
 {
     match form {
-        Arithmetic::Register(operation, from) => with_register(m, operation, from),
-        Arithmetic::Byte(operation) => with_byte(m, operation),
-        Arithmetic::Memory(operation) => with_memory(m, operation),
-        Arithmetic::Indexed(operation, from) => with_indexed(m, operation, from),
-        Arithmetic::IncrementRegister(name) => in_register(m, Change::Increment, name),
-        Arithmetic::IncrementMemory => at_hl(m, Change::Increment),
-        Arithmetic::IncrementIndexed(name) => at_index(m, Change::Increment, name),
-        Arithmetic::DecrementRegister(name) => in_register(m, Change::Decrement, name),
-        Arithmetic::DecrementMemory => at_hl(m, Change::Decrement),
-        Arithmetic::DecrementIndexed(name) => at_index(m, Change::Decrement, name),
-        Arithmetic::TestRegister(with) => test_register(m, with),
-        Arithmetic::TestByte => test_byte(m),
-        Arithmetic::TestMemory => test_memory(m),
+        Arithmetic::Register(operation, from) => {
+            let byte = register_byte(m, from);
+            operate(&mut m.cpu, operation, byte);
+        }
+        Arithmetic::Byte(operation) => {
+            let byte = m.operand();
+            operate(&mut m.cpu, operation, byte);
+        }
+        Arithmetic::Memory(operation) => {
+            let byte = memory_byte(m);
+            operate(&mut m.cpu, operation, byte);
+        }
+        Arithmetic::Indexed(operation, from) => {
+            let byte = indexed_byte(m, from);
+            operate(&mut m.cpu, operation, byte);
+        }
+        Arithmetic::IncrementRegister(name) => in_register(m, Increment, name),
+        Arithmetic::IncrementMemory => at_hl(m, Increment),
+        Arithmetic::IncrementIndexed(name) => at_index(m, Increment, name),
+        Arithmetic::DecrementRegister(name) => in_register(m, Decrement, name),
+        Arithmetic::DecrementMemory => at_hl(m, Decrement),
+        Arithmetic::DecrementIndexed(name) => at_index(m, Decrement, name),
+        Arithmetic::TestRegister(with) => {
+            let byte = register_byte(m, with);
+            test(&mut m.cpu, byte);
+        }
+        Arithmetic::TestByte => {
+            let byte = m.operand();
+            test(&mut m.cpu, byte);
+        }
+        Arithmetic::TestMemory => {
+            m.internal(1);
+            let byte = memory_byte(m);
+            test(&mut m.cpu, byte);
+        }
         Arithmetic::Complement => complement(m),
         Arithmetic::Negate => negate(m),
         Arithmetic::Multiply(name) => multiply_pair(m, name),
-        Arithmetic::AddPair(from) => add_pair(m, from),
-        Arithmetic::AddWithCarryPair(from) => add_with_carry_pair(m, from),
-        Arithmetic::SubtractWithCarryPair(from) => subtract_with_carry_pair(m, from),
-        Arithmetic::AddIndex(to, from) => add_index(m, to, from),
-        Arithmetic::IncrementPair(name) => increment_pair(m, name),
-        Arithmetic::IncrementIndex(name) => increment_index(m, name),
-        Arithmetic::DecrementPair(name) => decrement_pair(m, name),
-        Arithmetic::DecrementIndex(name) => decrement_index(m, name),
+        Arithmetic::AddPair(from) => {
+            let with = from.get(&m.cpu);
+            on_words(m, wide::add, Pair::Hl, with);
+        }
+        Arithmetic::AddWithCarryPair(from) => {
+            let with = from.get(&m.cpu);
+            on_words(m, wide::add_with_carry, Pair::Hl, with);
+        }
+        Arithmetic::SubtractWithCarryPair(from) => {
+            let with = from.get(&m.cpu);
+            on_words(m, wide::subtract_with_carry, Pair::Hl, with);
+        }
+        Arithmetic::AddIndex(to, from) => {
+            let with = addend(&m.cpu, from, to);
+            on_words(m, wide::add, to, with);
+        }
+        Arithmetic::IncrementPair(name) => count(m, name, Direction::Up),
+        Arithmetic::IncrementIndex(name) => count(m, name, Direction::Up),
+        Arithmetic::DecrementPair(name) => count(m, name, Direction::Down),
+        Arithmetic::DecrementIndex(name) => count(m, name, Direction::Down),
     }
 }
 
@@ -57,99 +98,55 @@ pub fn calculate<M: Memory, P: Panel>(m: &mut Machine<M, P>, form: Arithmetic)
 fn operate(cpu: &mut Registers, operation: Operation, byte: u8)
     ensures { cpu.new ≡ of.operated operation byte cpu.old }
 {
-    let (a, flags) = operation.apply(cpu.main.a, byte, cpu.main.f);
-    cpu.main.a = a;
-    cpu.main.f = flags;
+    let outcome = operation.apply(cpu.main.a, byte, cpu.main.f);
+    take(cpu, Register::A, outcome);
 }
 
 // F after a test of A with a byte.
 fn test(cpu: &mut Registers, byte: u8)
     ensures { cpu.new ≡ of.tested byte cpu.old }
 {
-    let (a, flags) = port::test(cpu.main.a, byte, cpu.main.f);
-    cpu.main.a = a;
-    cpu.main.f = flags;
+    let outcome = port::test(cpu.main.a, byte, cpu.main.f);
+    take(cpu, Register::A, outcome);
 }
 
 fn addend(cpu: &Registers, name: Addend, to: Index) -> u16
     ensures { result ≡ of.addend_of name to cpu.now }
 {
     match name {
-        Addend::Bc => pair(cpu, Pair::Bc),
-        Addend::De => pair(cpu, Pair::De),
-        Addend::Itself => index(cpu, to),
+        Addend::Bc => Pair::Bc.get(cpu),
+        Addend::De => Pair::De.get(cpu),
+        Addend::Itself => to.get(cpu),
         Addend::Sp => cpu.sp,
     }
 }
 
-// ADD A,r and the seven others
-fn with_register<M: Memory, P: Panel>(m: &mut Machine<M, P>, operation: Operation, from: Register)
+// A register's byte, after one state.
+fn register_byte<M: Memory, P: Panel>(m: &mut Machine<M, P>, from: Register) -> u8
     requires { Below 500 m.old }
-    ensures { Ends P.make M.memory P.state (calculates (form.Register operation from)) m.old m.new }
+    ensures { Gives {n = 0} P.make M.memory P.state (λ p. tree.internal 1 (got (value_of from p.cpu) p)) m.old result m.new }
 {
     m.internal(1);
-    let value = byte(&m.cpu, from);
-    operate(&mut m.cpu, operation, value);
+    byte(&m.cpu, from)
 }
 
-// ADD A,n
-fn with_byte<M: Memory, P: Panel>(m: &mut Machine<M, P>, operation: Operation)
+// The byte at (HL).
+fn memory_byte<M: Memory, P: Panel>(m: &mut Machine<M, P>) -> u8
     requires { Below 500 m.old }
-    ensures { Ends P.make M.memory P.state (calculates (form.Byte operation)) m.old m.new }
+    ensures { Gives {n = 0} P.make M.memory P.state (λ p. tree.read (hl p.cpu) (λ b. got b p)) m.old result m.new }
 {
-    let value = m.operand();
-    operate(&mut m.cpu, operation, value);
+    let at = Pair::Hl.get(&m.cpu);
+    m.read(at)
 }
 
-// ADD A,(HL)
-fn with_memory<M: Memory, P: Panel>(m: &mut Machine<M, P>, operation: Operation)
+// The byte at (IX+d).
+fn indexed_byte<M: Memory, P: Panel>(m: &mut Machine<M, P>, from: Index) -> u8
     requires { Below 500 m.old }
-    ensures { Ends P.make M.memory P.state (calculates (form.Memory operation)) m.old m.new }
-{
-    let at = pair(&m.cpu, Pair::Hl);
-    let value = m.read(at);
-    operate(&mut m.cpu, operation, value);
-}
-
-// ADD A,(IX+d)
-fn with_indexed<M: Memory, P: Panel>(m: &mut Machine<M, P>, operation: Operation, from: Index)
-    requires { Below 500 m.old }
-    ensures { Ends P.make M.memory P.state (calculates (form.Indexed operation from)) m.old m.new }
+    ensures { Gives {n = 0} P.make M.memory P.state (λ p. parts.indexed from p (λ a q. tree.internal 2 (tree.read a (λ b. got b q)))) m.old result m.new }
 {
     let at = m.indexed(from);
     m.internal(2);
-    let value = m.read(at);
-    operate(&mut m.cpu, operation, value);
-}
-
-// TST r
-fn test_register<M: Memory, P: Panel>(m: &mut Machine<M, P>, with: Register)
-    requires { Below 500 m.old }
-    ensures { Ends P.make M.memory P.state (calculates (form.TestRegister with)) m.old m.new }
-{
-    m.internal(1);
-    let value = byte(&m.cpu, with);
-    test(&mut m.cpu, value);
-}
-
-// TST n
-fn test_byte<M: Memory, P: Panel>(m: &mut Machine<M, P>)
-    requires { Below 500 m.old }
-    ensures { Ends P.make M.memory P.state (calculates form.TestByte) m.old m.new }
-{
-    let value = m.operand();
-    test(&mut m.cpu, value);
-}
-
-// TST (HL)
-fn test_memory<M: Memory, P: Panel>(m: &mut Machine<M, P>)
-    requires { Below 500 m.old }
-    ensures { Ends P.make M.memory P.state (calculates form.TestMemory) m.old m.new }
-{
-    m.internal(1);
-    let at = pair(&m.cpu, Pair::Hl);
-    let value = m.read(at);
-    test(&mut m.cpu, value);
+    m.read(at)
 }
 
 // CPL
@@ -157,9 +154,8 @@ fn complement<M: Memory, P: Panel>(m: &mut Machine<M, P>)
     requires { Below 500 m.old }
     ensures { Ends P.make M.memory P.state (calculates form.Complement) m.old m.new }
 {
-    let (a, flags) = logic::complement(m.cpu.main.a, m.cpu.main.f);
-    m.cpu.main.a = a;
-    m.cpu.main.f = flags;
+    let outcome = logic::complement(m.cpu.main.a, m.cpu.main.f);
+    take(&mut m.cpu, Register::A, outcome);
 }
 
 // NEG
@@ -167,9 +163,8 @@ fn negate<M: Memory, P: Panel>(m: &mut Machine<M, P>)
     requires { Below 500 m.old }
     ensures { Ends P.make M.memory P.state (calculates form.Negate) m.old m.new }
 {
-    let (a, flags) = add::negate(m.cpu.main.a, m.cpu.main.f);
-    m.cpu.main.a = a;
-    m.cpu.main.f = flags;
+    let outcome = add::negate(m.cpu.main.a, m.cpu.main.f);
+    take(&mut m.cpu, Register::A, outcome);
 }
 
 // MLT ww
@@ -178,99 +173,36 @@ fn multiply_pair<M: Memory, P: Panel>(m: &mut Machine<M, P>, name: Pair)
     ensures { Ends P.make M.memory P.state (calculates (form.Multiply name)) m.old m.new }
 {
     m.internal(11);
-    let [high, low] = pair(&m.cpu, name).to_be_bytes();
+    let [high, low] = name.get(&m.cpu).to_be_bytes();
     let (product, _) = multiply(high, low, m.cpu.main.f);
-    set_pair(&mut m.cpu, name, product);
+    name.set(&mut m.cpu, product);
 }
 
-// ADD HL,ss
-fn add_pair<M: Memory, P: Panel>(m: &mut Machine<M, P>, from: Pair)
-    requires { Below 500 m.old }
-    ensures { Ends P.make M.memory P.state (calculates (form.AddPair from)) m.old m.new }
+// ADD HL,ss, ADC HL,ss, SBC HL,ss and ADD IX,xx
+fn on_words<W: Word, O: FnOnce(u16, u16, Flags) -> (u16, Flags), M: Memory, P: Panel>(
+    m: &mut Machine<M, P>,
+    operation: O,
+    to: W,
+    with: u16,
+)
+    requires below { Below 500 m.old }
+    requires callable { O.IsAlwaysCallable operation }
+    ensures { (outcome : ℕ × Flags)
+        × O.post operation (W.value to m.old.cpu) with m.old.cpu.main.f outcome
+        × Ends P.make M.memory P.state (λ p. tree.internal 4 (parts.finish {n = 2} (λ s. W.with_word to outcome.0 (with_f outcome.1 s)) p)) m.old m.new }
 {
     m.internal(4);
-    let (sum, flags) = wide::add(pair(&m.cpu, Pair::Hl), pair(&m.cpu, from), m.cpu.main.f);
+    let (word, flags) = operation(to.get(&m.cpu), with, m.cpu.main.f);
     m.cpu.main.f = flags;
-    set_pair(&mut m.cpu, Pair::Hl, sum);
+    to.set(&mut m.cpu, word);
 }
 
-// ADC HL,ss
-fn add_with_carry_pair<M: Memory, P: Panel>(m: &mut Machine<M, P>, from: Pair)
+// INC ss, INC IX, DEC ss and DEC IX
+fn count<W: Word, M: Memory, P: Panel>(m: &mut Machine<M, P>, name: W, way: Direction)
     requires { Below 500 m.old }
-    ensures { Ends P.make M.memory P.state (calculates (form.AddWithCarryPair from)) m.old m.new }
-{
-    m.internal(4);
-    let (sum, flags) = wide::add_with_carry(
-        pair(&m.cpu, Pair::Hl),
-        pair(&m.cpu, from),
-        m.cpu.main.f,
-    );
-    m.cpu.main.f = flags;
-    set_pair(&mut m.cpu, Pair::Hl, sum);
-}
-
-// SBC HL,ss
-fn subtract_with_carry_pair<M: Memory, P: Panel>(m: &mut Machine<M, P>, from: Pair)
-    requires { Below 500 m.old }
-    ensures { Ends P.make M.memory P.state (calculates (form.SubtractWithCarryPair from)) m.old m.new }
-{
-    m.internal(4);
-    let (sum, flags) = wide::subtract_with_carry(
-        pair(&m.cpu, Pair::Hl),
-        pair(&m.cpu, from),
-        m.cpu.main.f,
-    );
-    m.cpu.main.f = flags;
-    set_pair(&mut m.cpu, Pair::Hl, sum);
-}
-
-// ADD IX,xx
-fn add_index<M: Memory, P: Panel>(m: &mut Machine<M, P>, to: Index, from: Addend)
-    requires { Below 500 m.old }
-    ensures { Ends P.make M.memory P.state (calculates (form.AddIndex to from)) m.old m.new }
-{
-    m.internal(4);
-    let (sum, flags) = wide::add(index(&m.cpu, to), addend(&m.cpu, from, to), m.cpu.main.f);
-    m.cpu.main.f = flags;
-    set_index(&mut m.cpu, to, sum);
-}
-
-// INC ss
-fn increment_pair<M: Memory, P: Panel>(m: &mut Machine<M, P>, name: Pair)
-    requires { Below 500 m.old }
-    ensures { Ends P.make M.memory P.state (calculates (form.IncrementPair name)) m.old m.new }
+    ensures { Ends {n = 2} P.make M.memory P.state (λ p. tree.internal 1 (parts.finish (λ s. W.with_word name (along way (W.value name s)) s) p)) m.old m.new }
 {
     m.internal(1);
-    let value = pair(&m.cpu, name).wrapping_add(1);
-    set_pair(&mut m.cpu, name, value);
-}
-
-// DEC ss
-fn decrement_pair<M: Memory, P: Panel>(m: &mut Machine<M, P>, name: Pair)
-    requires { Below 500 m.old }
-    ensures { Ends P.make M.memory P.state (calculates (form.DecrementPair name)) m.old m.new }
-{
-    m.internal(1);
-    let value = pair(&m.cpu, name).wrapping_sub(1);
-    set_pair(&mut m.cpu, name, value);
-}
-
-// INC IX
-fn increment_index<M: Memory, P: Panel>(m: &mut Machine<M, P>, name: Index)
-    requires { Below 500 m.old }
-    ensures { Ends P.make M.memory P.state (calculates (form.IncrementIndex name)) m.old m.new }
-{
-    m.internal(1);
-    let value = index(&m.cpu, name).wrapping_add(1);
-    set_index(&mut m.cpu, name, value);
-}
-
-// DEC IX
-fn decrement_index<M: Memory, P: Panel>(m: &mut Machine<M, P>, name: Index)
-    requires { Below 500 m.old }
-    ensures { Ends P.make M.memory P.state (calculates (form.DecrementIndex name)) m.old m.new }
-{
-    m.internal(1);
-    let value = index(&m.cpu, name).wrapping_sub(1);
-    set_index(&mut m.cpu, name, value);
+    let word = along(way, name.get(&m.cpu));
+    name.set(&mut m.cpu, word);
 }

@@ -6,9 +6,11 @@ ghost use Rattle.processor.specs.Control.{controls};
 use arithmetic::carry;
 use arithmetic::decimal::adjust;
 use instructions::group::control::Control;
+use machine::outcome::take;
 use machine::state::Machine;
 use memory::Memory;
 use panel::Panel;
+use registers::operand::Register;
 use registers::registers::Mode;
 
 // What the processor does to itself.
@@ -35,9 +37,8 @@ fn decimal_adjust<M: Memory, P: Panel>(m: &mut Machine<M, P>)
     ensures { Ends P.make M.memory P.state (controls form.DecimalAdjust) m.old m.new }
 {
     m.internal(1);
-    let (a, flags) = adjust(m.cpu.main.a, m.cpu.main.f);
-    m.cpu.main.a = a;
-    m.cpu.main.f = flags;
+    let outcome = adjust(m.cpu.main.a, m.cpu.main.f);
+    take(&mut m.cpu, Register::A, outcome);
 }
 
 // SCF
@@ -45,9 +46,8 @@ fn set_carry<M: Memory, P: Panel>(m: &mut Machine<M, P>)
     requires { Below 500 m.old }
     ensures { Ends P.make M.memory P.state (controls form.SetCarry) m.old m.new }
 {
-    let (a, flags) = carry::set(m.cpu.main.a, m.cpu.main.f);
-    m.cpu.main.a = a;
-    m.cpu.main.f = flags;
+    let outcome = carry::set(m.cpu.main.a, m.cpu.main.f);
+    take(&mut m.cpu, Register::A, outcome);
 }
 
 // CCF
@@ -55,9 +55,8 @@ fn complement_carry<M: Memory, P: Panel>(m: &mut Machine<M, P>)
     requires { Below 500 m.old }
     ensures { Ends P.make M.memory P.state (controls form.ComplementCarry) m.old m.new }
 {
-    let (a, flags) = carry::complement(m.cpu.main.a, m.cpu.main.f);
-    m.cpu.main.a = a;
-    m.cpu.main.f = flags;
+    let outcome = carry::complement(m.cpu.main.a, m.cpu.main.f);
+    take(&mut m.cpu, Register::A, outcome);
 }
 
 // SLP

@@ -1,16 +1,16 @@
 // The stack, and exchanges, behind their opcode bytes.
+ghost use Rattle.cycles.specs.Tree as tree;
 ghost use Rattle.instructions.specs.declared.group.exchange.Exchange.TheVariants as form;
-ghost use Rattle.machine.specs.Machines.{Below, Ends, Gives, got};
-ghost use Rattle.loads.specs.Stack.{top_exchanged};
-ghost use Rattle.processor.specs.Exchange.{exchanges};
+ghost use Rattle.machine.specs.Machines.{Below, Ends};
+ghost use Rattle.processor.specs.Exchange.{exchange_stack, exchanges};
+ghost use Rattle.processor.specs.Parts as parts;
 
 use instructions::group::exchange::Exchange;
 use machine::state::Machine;
 use memory::Memory;
-use operands::index::{index, set_index};
-use operands::pair::{pair, set_pair, set_stack_pair, stack_pair};
+use operands::word::Word;
 use panel::Panel;
-use registers::operand::{Index, Pair, StackPair};
+use registers::operand::Pair;
 use registers::registers::RegisterSet;
 
 // An exchange, or the stack.
@@ -20,53 +20,34 @@ pub fn exchange<M: Memory, P: Panel>(m: &mut Machine<M, P>, form: Exchange)
 {
     match form {
         Exchange::Push(from) => push(m, from),
-        Exchange::PushIndex(from) => push_index(m, from),
+        Exchange::PushIndex(from) => push(m, from),
         Exchange::Pop(to) => pop(m, to),
-        Exchange::PopIndex(to) => pop_index(m, to),
+        Exchange::PopIndex(to) => pop(m, to),
         Exchange::AfAlternate => af_alternate(m),
         Exchange::DeHl => de_hl(m),
         Exchange::Alternates => alternates(m),
-        Exchange::StackHl => stack_hl(m),
-        Exchange::StackIndex(name) => stack_index(m, name),
+        Exchange::StackHl => exchange_top(m, Pair::Hl),
+        Exchange::StackIndex(name) => exchange_top(m, name),
     }
 }
 
-// PUSH zz
-fn push<M: Memory, P: Panel>(m: &mut Machine<M, P>, from: StackPair)
+// PUSH zz and PUSH IX
+fn push<M: Memory, P: Panel, W: Word>(m: &mut Machine<M, P>, from: W)
     requires { Below 500 m.old }
-    ensures { Ends P.make M.memory P.state (exchanges (form.Push from)) m.old m.new }
+    ensures { Ends {n = 2} P.make M.memory P.state (λ p. tree.internal 2 (parts.push (W.value from p.cpu) p tree.done)) m.old m.new }
 {
     m.internal(2);
-    let value = stack_pair(&m.cpu, from);
+    let value = from.get(&m.cpu);
     m.push(value);
 }
 
-// PUSH IX
-fn push_index<M: Memory, P: Panel>(m: &mut Machine<M, P>, from: Index)
+// POP zz and POP IX
+fn pop<M: Memory, P: Panel, W: Word>(m: &mut Machine<M, P>, to: W)
     requires { Below 500 m.old }
-    ensures { Ends P.make M.memory P.state (exchanges (form.PushIndex from)) m.old m.new }
-{
-    m.internal(2);
-    let value = index(&m.cpu, from);
-    m.push(value);
-}
-
-// POP zz
-fn pop<M: Memory, P: Panel>(m: &mut Machine<M, P>, to: StackPair)
-    requires { Below 500 m.old }
-    ensures { Ends P.make M.memory P.state (exchanges (form.Pop to)) m.old m.new }
+    ensures { Ends {n = 2} P.make M.memory P.state (λ p. parts.pop p (λ v q. parts.finish (W.with_word to v) q)) m.old m.new }
 {
     let value = m.pop();
-    set_stack_pair(&mut m.cpu, to, value);
-}
-
-// POP IX
-fn pop_index<M: Memory, P: Panel>(m: &mut Machine<M, P>, to: Index)
-    requires { Below 500 m.old }
-    ensures { Ends P.make M.memory P.state (exchanges (form.PopIndex to)) m.old m.new }
-{
-    let value = m.pop();
-    set_index(&mut m.cpu, to, value);
+    to.set(&mut m.cpu, value);
 }
 
 // EX AF,AF'
@@ -93,10 +74,10 @@ fn de_hl<M: Memory, P: Panel>(m: &mut Machine<M, P>)
     requires { Below 500 m.old }
     ensures { Ends P.make M.memory P.state (exchanges form.DeHl) m.old m.new }
 {
-    let de = pair(&m.cpu, Pair::De);
-    let hl = pair(&m.cpu, Pair::Hl);
-    set_pair(&mut m.cpu, Pair::De, hl);
-    set_pair(&mut m.cpu, Pair::Hl, de);
+    let de = Pair::De.get(&m.cpu);
+    let hl = Pair::Hl.get(&m.cpu);
+    Pair::De.set(&mut m.cpu, hl);
+    Pair::Hl.set(&mut m.cpu, de);
 }
 
 // EXX
@@ -118,36 +99,16 @@ fn alternates<M: Memory, P: Panel>(m: &mut Machine<M, P>)
     };
 }
 
-// The word on top of the stack, and another in its place: its high byte is written first.
-fn exchange_top<M: Memory, P: Panel>(m: &mut Machine<M, P>, value: u16) -> u16
-    requires { Below 600 m.old }
-    ensures { Gives {n = 2} P.make M.memory P.state (λ p. top_exchanged value p (λ old. got old p)) m.old result m.new }
+// EX (SP),HL and EX (SP),IX: the high byte is written first.
+fn exchange_top<M: Memory, P: Panel, W: Word>(m: &mut Machine<M, P>, name: W)
+    requires { Below 500 m.old }
+    ensures { Ends P.make M.memory P.state (λ p. exchange_stack (W.value name p.cpu) (W.with_word name) p) m.old m.new }
 {
-    let [low, high] = value.to_le_bytes();
+    let [low, high] = name.get(&m.cpu).to_le_bytes();
     let sp = m.cpu.sp;
     let old = m.read_word(sp);
     m.internal(1);
     m.write(sp.wrapping_add(1), high);
     m.write(sp, low);
-    old
-}
-
-// EX (SP),HL
-fn stack_hl<M: Memory, P: Panel>(m: &mut Machine<M, P>)
-    requires { Below 500 m.old }
-    ensures { Ends P.make M.memory P.state (exchanges form.StackHl) m.old m.new }
-{
-    let value = pair(&m.cpu, Pair::Hl);
-    let old = exchange_top(m, value);
-    set_pair(&mut m.cpu, Pair::Hl, old);
-}
-
-// EX (SP),IX
-fn stack_index<M: Memory, P: Panel>(m: &mut Machine<M, P>, name: Index)
-    requires { Below 500 m.old }
-    ensures { Ends P.make M.memory P.state (exchanges (form.StackIndex name)) m.old m.new }
-{
-    let value = index(&m.cpu, name);
-    let old = exchange_top(m, value);
-    set_index(&mut m.cpu, name, old);
+    name.set(&mut m.cpu, old);
 }

@@ -1,15 +1,21 @@
 // Loads, behind their opcode bytes.
+ghost use Rattle.arithmetic.specs.Port as flags;
+ghost use Rattle.cycles.specs.Tree as tree;
 ghost use Rattle.instructions.specs.declared.group.load.Load.TheVariants as form;
 ghost use Rattle.machine.specs.Machines.{Below, Ends};
 ghost use Rattle.processor.specs.Load.{loads};
+ghost use Rattle.processor.specs.Parts as parts;
+ghost use Rattle.registers.specs.declared.operand.Register.TheVariants as register;
+ghost use Rattle.registers.specs.Registers.{with_sp};
 
 use arithmetic::port::load as shown;
 use instructions::group::load::Load;
+use machine::outcome::take;
 use machine::state::Machine;
 use memory::Memory;
-use operands::index::{index, set_index};
-use operands::pair::{pair, pointer, set_pair};
+use operands::pair::pointer;
 use operands::register::{byte, set_byte};
+use operands::word::Word;
 use panel::Panel;
 use registers::operand::{Index, Pair, Pointer, Register};
 
@@ -31,20 +37,26 @@ pub fn load<M: Memory, P: Panel>(m: &mut Machine<M, P>, form: Load)
         Load::PointerAccumulator(to) => pointer_accumulator(m, to),
         Load::AccumulatorAddress => accumulator_address(m),
         Load::AddressAccumulator => address_accumulator(m),
-        Load::AccumulatorI => accumulator_i(m),
-        Load::AccumulatorR => accumulator_r(m),
+        Load::AccumulatorI => {
+            let i = m.cpu.i;
+            accumulator_shown(m, i);
+        }
+        Load::AccumulatorR => {
+            let r = m.cpu.r;
+            accumulator_shown(m, r);
+        }
         Load::IAccumulator => m.cpu.i = m.cpu.main.a,
         Load::RAccumulator => m.cpu.r = m.cpu.main.a,
-        Load::PairWord(to) => pair_word(m, to),
-        Load::IndexWord(to) => index_word(m, to),
-        Load::HlAddress => pair_address(m, Pair::Hl),
-        Load::PairAddress(to) => pair_address(m, to),
-        Load::IndexAddress(to) => index_address(m, to),
-        Load::AddressHl => address_pair(m, Pair::Hl),
-        Load::AddressPair(from) => address_pair(m, from),
-        Load::AddressIndex(from) => address_index(m, from),
-        Load::SpHl => sp_hl(m),
-        Load::SpIndex(from) => sp_index(m, from),
+        Load::PairWord(to) => word_immediate(m, to),
+        Load::IndexWord(to) => word_immediate(m, to),
+        Load::HlAddress => word_address(m, Pair::Hl),
+        Load::PairAddress(to) => word_address(m, to),
+        Load::IndexAddress(to) => word_address(m, to),
+        Load::AddressHl => address_word(m, Pair::Hl),
+        Load::AddressPair(from) => address_word(m, from),
+        Load::AddressIndex(from) => address_word(m, from),
+        Load::SpHl => sp_word(m, Pair::Hl),
+        Load::SpIndex(from) => sp_word(m, from),
     }
 }
 
@@ -72,7 +84,7 @@ fn register_memory<M: Memory, P: Panel>(m: &mut Machine<M, P>, to: Register)
     requires { Below 500 m.old }
     ensures { Ends P.make M.memory P.state (loads (form.RegisterMemory to)) m.old m.new }
 {
-    let at = pair(&m.cpu, Pair::Hl);
+    let at = Pair::Hl.get(&m.cpu);
     let value = m.read(at);
     set_byte(&mut m.cpu, to, value);
 }
@@ -94,7 +106,7 @@ fn memory_register<M: Memory, P: Panel>(m: &mut Machine<M, P>, from: Register)
     ensures { Ends P.make M.memory P.state (loads (form.MemoryRegister from)) m.old m.new }
 {
     m.internal(1);
-    let at = pair(&m.cpu, Pair::Hl);
+    let at = Pair::Hl.get(&m.cpu);
     let value = byte(&m.cpu, from);
     m.write(at, value);
 }
@@ -105,7 +117,7 @@ fn memory_byte<M: Memory, P: Panel>(m: &mut Machine<M, P>)
     ensures { Ends P.make M.memory P.state (loads form.MemoryByte) m.old m.new }
 {
     let value = m.operand();
-    let at = pair(&m.cpu, Pair::Hl);
+    let at = Pair::Hl.get(&m.cpu);
     m.write(at, value);
 }
 
@@ -168,100 +180,50 @@ fn address_accumulator<M: Memory, P: Panel>(m: &mut Machine<M, P>)
     m.write(at, m.cpu.main.a);
 }
 
-// LD A,I
-fn accumulator_i<M: Memory, P: Panel>(m: &mut Machine<M, P>)
+// LD A,I and LD A,R
+fn accumulator_shown<M: Memory, P: Panel>(m: &mut Machine<M, P>, byte: u8)
     requires { Below 500 m.old }
-    ensures { Ends P.make M.memory P.state (loads form.AccumulatorI) m.old m.new }
+    ensures { Ends {n = 2} P.make M.memory P.state (λ p. parts.finish (λ s. parts.taking register.A (flags.load byte s.ief2 s.main.f) s) p) m.old m.new }
 {
-    let (a, flags) = shown(m.cpu.i, m.cpu.ief2, m.cpu.main.f);
-    m.cpu.main.a = a;
-    m.cpu.main.f = flags;
+    let outcome = shown(byte, m.cpu.ief2, m.cpu.main.f);
+    take(&mut m.cpu, Register::A, outcome);
 }
 
-// LD A,R
-fn accumulator_r<M: Memory, P: Panel>(m: &mut Machine<M, P>)
+// LD dd,mn and LD IX,mn
+fn word_immediate<M: Memory, P: Panel, W: Word>(m: &mut Machine<M, P>, to: W)
     requires { Below 500 m.old }
-    ensures { Ends P.make M.memory P.state (loads form.AccumulatorR) m.old m.new }
-{
-    let (a, flags) = shown(m.cpu.r, m.cpu.ief2, m.cpu.main.f);
-    m.cpu.main.a = a;
-    m.cpu.main.f = flags;
-}
-
-// LD dd,mn
-fn pair_word<M: Memory, P: Panel>(m: &mut Machine<M, P>, to: Pair)
-    requires { Below 500 m.old }
-    ensures { Ends P.make M.memory P.state (loads (form.PairWord to)) m.old m.new }
+    ensures { Ends {n = 2} P.make M.memory P.state (λ p. parts.word_operand p (λ v q. parts.finish (W.with_word to v) q)) m.old m.new }
 {
     let value = m.word_operand();
-    set_pair(&mut m.cpu, to, value);
+    to.set(&mut m.cpu, value);
 }
 
-// LD IX,mn
-fn index_word<M: Memory, P: Panel>(m: &mut Machine<M, P>, to: Index)
+// LD dd,(mn) and LD IX,(mn)
+fn word_address<M: Memory, P: Panel, W: Word>(m: &mut Machine<M, P>, to: W)
     requires { Below 500 m.old }
-    ensures { Ends P.make M.memory P.state (loads (form.IndexWord to)) m.old m.new }
-{
-    let value = m.word_operand();
-    set_index(&mut m.cpu, to, value);
-}
-
-// LD dd,(mn)
-fn pair_address<M: Memory, P: Panel>(m: &mut Machine<M, P>, to: Pair)
-    requires { Below 500 m.old }
-    ensures { Ends P.make M.memory P.state (loads (form.PairAddress to)) m.old m.new }
+    ensures { Ends {n = 2} P.make M.memory P.state (λ p. parts.word_operand p (λ a q. parts.read_word a (λ v. parts.finish (W.with_word to v) q))) m.old m.new }
 {
     let at = m.word_operand();
     let value = m.read_word(at);
-    set_pair(&mut m.cpu, to, value);
+    to.set(&mut m.cpu, value);
 }
 
-// LD IX,(mn)
-fn index_address<M: Memory, P: Panel>(m: &mut Machine<M, P>, to: Index)
+// LD (mn),ss and LD (mn),IX
+fn address_word<M: Memory, P: Panel, W: Word>(m: &mut Machine<M, P>, from: W)
     requires { Below 500 m.old }
-    ensures { Ends P.make M.memory P.state (loads (form.IndexAddress to)) m.old m.new }
-{
-    let at = m.word_operand();
-    let value = m.read_word(at);
-    set_index(&mut m.cpu, to, value);
-}
-
-// LD (mn),ss
-fn address_pair<M: Memory, P: Panel>(m: &mut Machine<M, P>, from: Pair)
-    requires { Below 500 m.old }
-    ensures { Ends P.make M.memory P.state (loads (form.AddressPair from)) m.old m.new }
+    ensures { Ends {n = 2} P.make M.memory P.state (λ p. parts.word_operand p (λ a q. tree.internal 1 (parts.write_word a (W.value from q.cpu) (tree.done q)))) m.old m.new }
 {
     let at = m.word_operand();
     m.internal(1);
-    let value = pair(&m.cpu, from);
+    let value = from.get(&m.cpu);
     m.write_word(at, value);
 }
 
-// LD (mn),IX
-fn address_index<M: Memory, P: Panel>(m: &mut Machine<M, P>, from: Index)
+// LD SP,HL and LD SP,IX
+fn sp_word<M: Memory, P: Panel, W: Word>(m: &mut Machine<M, P>, from: W)
     requires { Below 500 m.old }
-    ensures { Ends P.make M.memory P.state (loads (form.AddressIndex from)) m.old m.new }
-{
-    let at = m.word_operand();
-    m.internal(1);
-    let value = index(&m.cpu, from);
-    m.write_word(at, value);
-}
-
-// LD SP,HL
-fn sp_hl<M: Memory, P: Panel>(m: &mut Machine<M, P>)
-    requires { Below 500 m.old }
-    ensures { Ends P.make M.memory P.state (loads form.SpHl) m.old m.new }
+    ensures { Ends {n = 2} P.make M.memory P.state (λ p. tree.internal 1 (parts.finish (λ s. with_sp (W.value from s) s) p)) m.old m.new }
 {
     m.internal(1);
-    m.cpu.sp = pair(&m.cpu, Pair::Hl);
-}
-
-// LD SP,IX
-fn sp_index<M: Memory, P: Panel>(m: &mut Machine<M, P>, from: Index)
-    requires { Below 500 m.old }
-    ensures { Ends P.make M.memory P.state (loads (form.SpIndex from)) m.old m.new }
-{
-    m.internal(1);
-    m.cpu.sp = index(&m.cpu, from);
+    m.cpu.sp = from.get(&m.cpu);
 }

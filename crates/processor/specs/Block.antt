@@ -28,8 +28,8 @@ compared way b s =
 abbrev pub transfers : Direction → Processor → (Processor → Cycles Processor 1) → Cycles Processor 2
 transfers way p next = read (hl p.cpu) (λ b. write (de p.cpu) b (next (on_cpu (transferred way b) p)))
 
--- A is compared with the byte at (HL).
-abbrev pub compares : Direction → Processor → (ℕ → Processor → Cycles Processor 2) → Cycles Processor 2
+-- A is compared with the byte at (HL), which is handed on.
+abbrev pub compares : {A : Type 0} {n : ℕ} → Direction → Processor → (ℕ → Processor → Cycles A n) → Cycles A n
 compares way p next = read (hl p.cpu) (λ b. internal 3 (next b (on_cpu (compared way b) p)))
 
 -- A repeated transfer goes on while BC is not 0, a repeated comparison while also A is not the byte.

@@ -3,8 +3,9 @@ ghost use Rattle.instructions.specs.declared.group.block.Block.TheVariants as fo
 ghost use Rattle.machine.specs.Machines.{Below, Ends, Gives, got};
 ghost use Rattle.processor.specs.Block as of;
 ghost use Rattle.processor.specs.Block.{blocks};
+ghost use Rattle.registers.specs.Operands.{along, bc, hl, with_bc, with_hl};
+ghost use Rattle.registers.specs.Registers.{down};
 ghost use Rattle.std.specs.Prelude.{◌≡◌};
-ghost use Rattle.transfers.specs.Compared.{byte_compared};
 
 use crate::again::again;
 use arithmetic::block::{compare, transfer};
@@ -12,7 +13,7 @@ use instructions::group::block::Block;
 use machine::state::Machine;
 use memory::Memory;
 use operands::address::along;
-use operands::pair::{pair, set_pair};
+use operands::word::Word;
 use panel::Panel;
 use registers::operand::{Direction, Pair};
 use registers::registers::Registers;
@@ -30,17 +31,26 @@ pub fn on_block<M: Memory, P: Panel>(m: &mut Machine<M, P>, form: Block)
     }
 }
 
+// HL goes on and BC is lowered, which is answered.
+fn passed(cpu: &mut Registers, way: Direction) -> u16
+    ensures left { result ≡ down (bc cpu.old) 1 }
+    ensures counted { cpu.new ≡ with_bc (down (bc cpu.old) 1) (with_hl (along way (hl cpu.old)) cpu.old) }
+{
+    let left = Pair::Bc.get(cpu).wrapping_sub(1);
+    let from = along(way, Pair::Hl.get(cpu));
+    Pair::Hl.set(cpu, from);
+    Pair::Bc.set(cpu, left);
+    left
+}
+
 // The registers after a byte was moved.
 fn moved(cpu: &mut Registers, way: Direction, byte: u8)
     ensures { cpu.new ≡ of.transferred way byte cpu.old }
 {
-    let left = pair(cpu, Pair::Bc).wrapping_sub(1);
-    let from = along(way, pair(cpu, Pair::Hl));
-    let to = along(way, pair(cpu, Pair::De));
+    let left = passed(cpu, way);
+    let to = along(way, Pair::De.get(cpu));
+    Pair::De.set(cpu, to);
     let (_, flags) = transfer(byte, left, cpu.main.f);
-    set_pair(cpu, Pair::Hl, from);
-    set_pair(cpu, Pair::De, to);
-    set_pair(cpu, Pair::Bc, left);
     cpu.main.f = flags;
 }
 
@@ -48,11 +58,8 @@ fn moved(cpu: &mut Registers, way: Direction, byte: u8)
 fn matched(cpu: &mut Registers, way: Direction, byte: u8)
     ensures { cpu.new ≡ of.compared way byte cpu.old }
 {
-    let left = pair(cpu, Pair::Bc).wrapping_sub(1);
-    let from = along(way, pair(cpu, Pair::Hl));
+    let left = passed(cpu, way);
     let (_, flags) = compare(cpu.main.a, byte, left, cpu.main.f);
-    set_pair(cpu, Pair::Hl, from);
-    set_pair(cpu, Pair::Bc, left);
     cpu.main.f = flags;
 }
 
@@ -61,8 +68,8 @@ fn transfer_byte<M: Memory, P: Panel>(m: &mut Machine<M, P>, way: Direction)
     requires { Below 550 m.old }
     ensures { Ends P.make M.memory P.state (blocks (form.Transfer way)) m.old m.new }
 {
-    let from = pair(&m.cpu, Pair::Hl);
-    let to = pair(&m.cpu, Pair::De);
+    let to = Pair::De.get(&m.cpu);
+    let from = Pair::Hl.get(&m.cpu);
     let byte = m.read(from);
     m.write(to, byte);
     moved(&mut m.cpu, way, byte);
@@ -74,16 +81,16 @@ fn transfer_repeated<M: Memory, P: Panel>(m: &mut Machine<M, P>, way: Direction)
     ensures { Ends P.make M.memory P.state (blocks (form.TransferRepeated way)) m.old m.new }
 {
     transfer_byte(m, way);
-    let left = pair(&m.cpu, Pair::Bc);
+    let left = Pair::Bc.get(&m.cpu);
     again(m, left != 0);
 }
 
 // A is compared with the byte at (HL), which is answered.
 fn compare_byte<M: Memory, P: Panel>(m: &mut Machine<M, P>, way: Direction) -> u8
     requires { Below 550 m.old }
-    ensures { Gives {n = 0} P.make M.memory P.state (λ p. byte_compared way p got) m.old result m.new }
+    ensures { Gives {n = 0} P.make M.memory P.state (λ p. of.compares way p got) m.old result m.new }
 {
-    let from = pair(&m.cpu, Pair::Hl);
+    let from = Pair::Hl.get(&m.cpu);
     let byte = m.read(from);
     m.internal(3);
     matched(&mut m.cpu, way, byte);
@@ -104,7 +111,6 @@ fn compare_repeated<M: Memory, P: Panel>(m: &mut Machine<M, P>, way: Direction)
     ensures { Ends P.make M.memory P.state (blocks (form.CompareRepeated way)) m.old m.new }
 {
     let byte = compare_byte(m, way);
-    let left = pair(&m.cpu, Pair::Bc);
-    let more = left != 0 && m.cpu.main.a != byte;
+    let more = Pair::Bc.get(&m.cpu) != 0 && m.cpu.main.a != byte;
     again(m, more);
 }

@@ -4,21 +4,25 @@ ghost use Rattle.machine.specs.Machines.{Below, Ends, Gives, got};
 ghost use Rattle.arithmetic.specs.Block as rule;
 ghost use Rattle.arithmetic.specs.Port as flags;
 ghost use Rattle.cycles.specs.Tree as tree;
-ghost use Rattle.processor.specs.Parts.{output, taking};
+ghost use Rattle.processor.specs.Parts as parts;
+ghost use Rattle.processor.specs.Parts.{taking};
 ghost use Rattle.processor.specs.Port as of;
 ghost use Rattle.processor.specs.Port.{ports};
-ghost use Rattle.registers.specs.Operands.{bc, hl};
+ghost use Rattle.registers.specs.declared.operand.Register.TheVariants as register;
+ghost use Rattle.registers.specs.Operands.{along, bc, hl, value_of, with_hl};
 ghost use Rattle.registers.specs.Ports.{on_cpu};
 ghost use Rattle.std.specs.Prelude.{◌≡◌};
 
 use crate::again::{again, again_zero};
+use arithmetic::flags::Flags;
 use arithmetic::{block, port};
 use instructions::group::port::Port;
+use machine::outcome::take;
 use machine::state::Machine;
 use memory::Memory;
 use operands::address::along;
-use operands::pair::{pair, set_pair};
-use operands::register::{byte, set_byte};
+use operands::register::byte;
+use operands::word::Word;
 use panel::Panel;
 use registers::operand::{Direction, Pair, Register};
 use registers::registers::Registers;
@@ -45,39 +49,43 @@ pub fn on_port<M: Memory, P: Panel>(m: &mut Machine<M, P>, form: Port)
     }
 }
 
-// The registers after a byte went by in a block: B is lowered and HL goes on.
-fn counted(cpu: &mut Registers, way: Direction, byte: u8)
-    ensures { cpu.new ≡ of.counted_down rule.port way byte cpu.old }
+// The registers after a byte went by in a block: HL goes on, and B, lowered, and F are the outcome.
+fn counted(cpu: &mut Registers, way: Direction, outcome: (u8, Flags))
+    ensures { cpu.new ≡ taking register.B outcome (with_hl (along way (hl cpu.old)) cpu.old) }
 {
-    let at = along(way, pair(cpu, Pair::Hl));
-    let (left, flags) = block::port(cpu.main.b, byte, cpu.main.f);
-    set_pair(cpu, Pair::Hl, at);
-    cpu.main.f = flags;
-    cpu.main.b = left;
+    let at = along(way, Pair::Hl.get(cpu));
+    Pair::Hl.set(cpu, at);
+    take(cpu, Register::B, outcome);
 }
 
-// The same in the OTIM family, where C goes on too and F goes by another rule.
-fn counted_zero(cpu: &mut Registers, way: Direction, byte: u8)
-    ensures { cpu.new ≡ of.next_port way (of.counted_down rule.port_zero way byte cpu.old) }
+// C goes on too in the OTIM family. Words go on by operands::address::along, which wraps at 65,536 where a byte wraps at 256.
+fn next_port(way: Direction, c: u8) -> u8
+    ensures { result ≡ of.along_byte way c }
 {
-    let at = along(way, pair(cpu, Pair::Hl));
-    let (left, flags) = block::port_zero(cpu.main.b, byte, cpu.main.f);
-    set_pair(cpu, Pair::Hl, at);
-    cpu.main.f = flags;
-    cpu.main.b = left;
-    cpu.main.c = match way {
-        Direction::Up => cpu.main.c.wrapping_add(1),
-        Direction::Down => cpu.main.c.wrapping_sub(1),
-    };
+    match way {
+        Direction::Up => c.wrapping_add(1),
+        Direction::Down => c.wrapping_sub(1),
+    }
 }
 
-// A register, and F, after an input.
-fn take(cpu: &mut Registers, to: Register, byte: u8)
-    ensures { cpu.new ≡ taking to (flags.input byte cpu.old.main.f) cpu.old }
+// A byte from a port, for a register and F.
+fn receive<M: Memory, P: Panel>(m: &mut Machine<M, P>, port: u16, to: Register)
+    requires { Below 600 m.old }
+    ensures { Ends {n = 0} P.make M.memory P.state (λ p. parts.input port p (λ b. parts.finish (λ s. taking to (flags.input b s.main.f) s) p)) m.old m.new }
 {
-    let (value, flags) = port::input(byte, cpu.main.f);
-    cpu.main.f = flags;
-    set_byte(cpu, to, value);
+    let byte = m.input(port);
+    let outcome = port::input(byte, m.cpu.main.f);
+    take(&mut m.cpu, to, outcome);
+}
+
+// A register's byte for a port, after one state.
+fn deliver<M: Memory, P: Panel>(m: &mut Machine<M, P>, port: u16, from: Register)
+    requires { Below 600 m.old }
+    ensures { Ends {n = 0} P.make M.memory P.state (λ p. tree.internal 1 (parts.output port (value_of from p.cpu) p tree.done)) m.old m.new }
+{
+    m.internal(1);
+    let value = byte(&m.cpu, from);
+    m.output(port, value);
 }
 
 // IN A,(n)
@@ -95,9 +103,8 @@ fn input<M: Memory, P: Panel>(m: &mut Machine<M, P>, to: Register)
     requires { Below 500 m.old }
     ensures { Ends P.make M.memory P.state (ports (form.Input to)) m.old m.new }
 {
-    let port = pair(&m.cpu, Pair::Bc);
-    let byte = m.input(port);
-    take(&mut m.cpu, to, byte);
+    let port = Pair::Bc.get(&m.cpu);
+    receive(m, port, to);
 }
 
 // IN0 r,(n)
@@ -106,8 +113,7 @@ fn input_zero<M: Memory, P: Panel>(m: &mut Machine<M, P>, to: Register)
     ensures { Ends P.make M.memory P.state (ports (form.InputZero to)) m.old m.new }
 {
     let port = u16::from(m.operand());
-    let byte = m.input(port);
-    take(&mut m.cpu, to, byte);
+    receive(m, port, to);
 }
 
 // OUT (n),A
@@ -116,9 +122,8 @@ fn output_accumulator<M: Memory, P: Panel>(m: &mut Machine<M, P>)
     ensures { Ends P.make M.memory P.state (ports form.OutputAccumulator) m.old m.new }
 {
     let low = m.operand();
-    m.internal(1);
-    let a = m.cpu.main.a;
-    m.output(u16::from_be_bytes([a, low]), a);
+    let port = u16::from_be_bytes([m.cpu.main.a, low]);
+    deliver(m, port, Register::A);
 }
 
 // OUT (C),r
@@ -126,10 +131,8 @@ fn output<M: Memory, P: Panel>(m: &mut Machine<M, P>, from: Register)
     requires { Below 500 m.old }
     ensures { Ends P.make M.memory P.state (ports (form.Output from)) m.old m.new }
 {
-    m.internal(1);
-    let port = pair(&m.cpu, Pair::Bc);
-    let value = byte(&m.cpu, from);
-    m.output(port, value);
+    let port = Pair::Bc.get(&m.cpu);
+    deliver(m, port, from);
 }
 
 // OUT0 (n),r
@@ -138,9 +141,7 @@ fn output_zero<M: Memory, P: Panel>(m: &mut Machine<M, P>, from: Register)
     ensures { Ends P.make M.memory P.state (ports (form.OutputZero from)) m.old m.new }
 {
     let port = u16::from(m.operand());
-    m.internal(1);
-    let value = byte(&m.cpu, from);
-    m.output(port, value);
+    deliver(m, port, from);
 }
 
 // TSTIO n
@@ -149,8 +150,7 @@ fn test<M: Memory, P: Panel>(m: &mut Machine<M, P>)
     ensures { Ends P.make M.memory P.state (ports form.Test) m.old m.new }
 {
     let mask = m.operand();
-    let port = u16::from(m.cpu.main.c);
-    let byte = m.input(port);
+    let byte = m.input(u16::from(m.cpu.main.c));
     let (_, flags) = port::test(byte, mask, m.cpu.main.f);
     m.cpu.main.f = flags;
 }
@@ -160,11 +160,12 @@ fn input_block<M: Memory, P: Panel>(m: &mut Machine<M, P>, way: Direction)
     requires { Below 550 m.old }
     ensures { Ends P.make M.memory P.state (ports (form.InputBlock way)) m.old m.new }
 {
-    let port = pair(&m.cpu, Pair::Bc);
-    let at = pair(&m.cpu, Pair::Hl);
+    let at = Pair::Hl.get(&m.cpu);
+    let port = Pair::Bc.get(&m.cpu);
     let byte = m.input(port);
     m.write(at, byte);
-    counted(&mut m.cpu, way, byte);
+    let outcome = block::port(m.cpu.main.b, byte, m.cpu.main.f);
+    counted(&mut m.cpu, way, outcome);
 }
 
 // INIR and INDR
@@ -181,18 +182,19 @@ fn from_hl<M: Memory, P: Panel>(m: &mut Machine<M, P>) -> u8
     requires { Below 600 m.old }
     ensures { Gives {n = 0} P.make M.memory P.state (λ p. tree.read (hl p.cpu) (λ b. got b p)) m.old result m.new }
 {
-    let at = pair(&m.cpu, Pair::Hl);
+    let at = Pair::Hl.get(&m.cpu);
     m.read(at)
 }
 
 // A byte goes to port (BC), and is counted.
 fn send<M: Memory, P: Panel>(m: &mut Machine<M, P>, way: Direction, byte: u8)
     requires { Below 600 m.old }
-    ensures { Ends {n = 0} P.make M.memory P.state (λ p. output (bc p.cpu) byte p (λ q. tree.done (on_cpu (of.counted_down rule.port way byte) q))) m.old m.new }
+    ensures { Ends {n = 0} P.make M.memory P.state (λ p. parts.output (bc p.cpu) byte p (λ q. tree.done (on_cpu (of.counted_down rule.port way byte) q))) m.old m.new }
 {
-    let port = pair(&m.cpu, Pair::Bc);
+    let port = Pair::Bc.get(&m.cpu);
     m.output(port, byte);
-    counted(&mut m.cpu, way, byte);
+    let outcome = block::port(m.cpu.main.b, byte, m.cpu.main.f);
+    counted(&mut m.cpu, way, outcome);
 }
 
 // OUTI and OUTD
@@ -219,11 +221,11 @@ fn output_next<M: Memory, P: Panel>(m: &mut Machine<M, P>, way: Direction)
     ensures { Ends P.make M.memory P.state (λ p. of.outputs_zero way p tree.done) m.old m.new }
 {
     m.internal(1);
-    let at = pair(&m.cpu, Pair::Hl);
-    let byte = m.read(at);
-    let port = u16::from(m.cpu.main.c);
-    m.output(port, byte);
-    counted_zero(&mut m.cpu, way, byte);
+    let byte = from_hl(m);
+    m.output(u16::from(m.cpu.main.c), byte);
+    let outcome = block::port_zero(m.cpu.main.b, byte, m.cpu.main.f);
+    counted(&mut m.cpu, way, outcome);
+    m.cpu.main.c = next_port(way, m.cpu.main.c);
 }
 
 // OTIM and OTDM
