@@ -4,6 +4,8 @@
 ghost use Rattle.denial.specs.Denials.{told};
 ghost use Rattle.std.specs.Prelude.{◌≡◌};
 
+pub mod unmade;
+
 // A cause of denial. A denied call changes nothing.
 #[derive(Clone, Copy, Debug, PartialEq, Eq)]
 pub enum Denial {
@@ -63,11 +65,14 @@ impl Denial {
     pub fn layer(self) -> Layer
         ensures { result ≡ (told self).layer }
     {
-        match self.number() {
-            0..=4 => Layer::Making,
-            5 => Layer::Memory,
-            6 | 7 => Layer::Card,
-            _ => Layer::Panel,
+        match self {
+            Denial::MemoryTooLong
+            | Denial::EntryOutOfRange
+            | Denial::TooManyEntries
+            | Denial::TableLength => Layer::Making,
+            Denial::AddressBeyondMemory => Layer::Memory,
+            Denial::BudgetOutOfRange | Denial::LookOutOfRange => Layer::Card,
+            Denial::PanelFull | Denial::NoRestartByte => Layer::Panel,
         }
     }
 }

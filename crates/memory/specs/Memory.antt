@@ -11,6 +11,10 @@ pub record Mem : Type 0 where
 abbrev pub is_address : ℕ → Bool
 is_address a = nat_lt a 524288
 
+-- The place of a physical address in a run of bytes, or 5.
+abbrev pub placed_at : ℕ → Result ℕ Told
+placed_at a = cond (is_address a) (Ok a) (Err (numbered 5))
+
 -- What a read of a answers.
 abbrev pub fetched : Mem → ℕ → Result ℕ Told
 fetched m a = cond (is_address a) (Ok (m.byte a)) (Err (numbered 5))

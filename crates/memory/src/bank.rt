@@ -1,14 +1,13 @@
 // A bank: a lent run of bytes from address 0, which all take writes. Behind it addresses hold FFH and take no writes.
-ghost use Rattle.std.specs.Prelude.{◌≡◌, ◌≤◌, length};
+ghost use Rattle.std.specs.Prelude.{◌≡◌, ◌≤◌, length, take};
 ghost use Rattle.denial.specs.Denials.{answered};
 ghost use Rattle.memory.specs.Boards.{bank as bank_over, bank_memory, bank_run, bytes_of, cut};
 ghost use Rattle.memory.specs.Memory.{accepted, store};
 
 use crate::length::BoardLength;
-use crate::{BEYOND, Memory};
+use crate::{Memory, place};
 use denial::Denial;
 
-// The bank ends at `length`, or where the lent bytes end.
 #[derive(Drop)]
 pub struct Bank<'a> {
     bytes: &'a mut [u8],
@@ -30,6 +29,13 @@ impl<'a> Bank<'a> {
         }
     }
 
+    // The bytes that the bank is over: it ends at `length`, or where the lent bytes end.
+    fn in_use(&self) -> &[u8]
+        ensures { result.now ≡ take self.now.length self.now.bytes.now }
+    {
+        &self.bytes[..self.length.min(self.bytes.len())]
+    }
+
     // Ends the bank and hands the loan back, with the bytes that the bank held.
     pub fn into_bytes(self) -> &'a mut [u8]
         ensures memory { bank_memory self.entry ≡ cut self.entry.length (bank_over result.now) }
@@ -45,15 +51,7 @@ impl<'a> Memory for Bank<'a> {
     ghost memory = { bank_memory };
 
     fn read(&self, at: u32) -> Result<u8, Denial> {
-        if at >= BEYOND {
-            return Err(Denial::AddressBeyondMemory);
-        }
-        let i = at as usize;
-        if i < self.length && i < self.bytes.len() {
-            Ok(self.bytes[i])
-        } else {
-            Ok(0xFF)
-        }
+        Ok(*self.in_use().get(place(at)?).unwrap_or(&0xFF))
     }
 
     // The bytes stay on the loan they came by, so that the lender knows them by the model.
@@ -63,11 +61,8 @@ impl<'a> Memory for Bank<'a> {
         ensures bytes { self.new.bytes.now ≡ bank_run self.old at byte }
         ensures loan { self.new.bytes.ghost_name ≡ self.old.bytes.ghost_name }
     {
-        if at >= BEYOND {
-            return Err(Denial::AddressBeyondMemory);
-        }
-        let i = at as usize;
-        if i < self.length && i < self.bytes.len() {
+        let i = place(at)?;
+        if i < self.in_use().len() {
             self.bytes[i] = byte;
         }
         Ok(())

@@ -2,7 +2,7 @@
 #![tactic(auto)]
 
 ghost use Rattle.denial.specs.Denials.{answered};
-ghost use Rattle.memory.specs.Memory.{Mem, StoreLaws, accepted, fetched, store};
+ghost use Rattle.memory.specs.Memory.{Mem, StoreLaws, accepted, fetched, placed_at, store};
 ghost use Rattle.std.specs.Prelude.{◌≡◌};
 
 use denial::Denial;
@@ -13,6 +13,16 @@ pub mod rom_ram;
 
 // The first number that is no physical address.
 pub const BEYOND: u32 = 524_288;
+
+// The place of a physical address in a run of bytes, or 5.
+pub fn place(at: u32) -> Result<usize, Denial>
+    ensures { answered result ≡ placed_at at }
+{
+    if at >= BEYOND {
+        return Err(Denial::AddressBeyondMemory);
+    }
+    Ok(at as usize)
+}
 
 // A memory means, for each physical address, a byte and whether the address takes writes. Every make says by `memory`
 // which memory its value is, and shows that reading and writing are those of the meaning.

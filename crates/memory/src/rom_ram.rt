@@ -5,7 +5,7 @@ ghost use Rattle.memory.specs.Memory.{accepted, store};
 ghost use Rattle.std.specs.Prelude.{◌≡◌, ◌+◌, ◌≤◌, length};
 
 use crate::length::BoardLength;
-use crate::{BEYOND, Memory};
+use crate::{Memory, place};
 use denial::Denial;
 
 // The board ends at `length`, or where the lent bytes end.
@@ -51,21 +51,13 @@ impl<'a> Memory for RomRam<'a> {
     ghost memory = { rom_ram_memory };
 
     fn read(&self, at: u32) -> Result<u8, Denial> {
-        if at >= BEYOND {
-            return Err(Denial::AddressBeyondMemory);
-        }
-        let i = at as usize;
+        let i = place(at)?;
         if i >= self.length {
             return Ok(0xFF);
         }
-        if i < self.rom.len() {
-            return Ok(self.rom[i]);
-        }
-        let i = i - self.rom.len();
-        if i < self.ram.len() {
-            Ok(self.ram[i])
-        } else {
-            Ok(0xFF)
+        match self.rom.get(i) {
+            Some(byte) => Ok(*byte),
+            None => Ok(*self.ram.get(i - self.rom.len()).unwrap_or(&0xFF)),
         }
     }
 
@@ -76,10 +68,7 @@ impl<'a> Memory for RomRam<'a> {
         ensures bytes { self.new.ram.now ≡ ram_run self.old at byte }
         ensures loan { self.new.ram.ghost_name ≡ self.old.ram.ghost_name }
     {
-        if at >= BEYOND {
-            return Err(Denial::AddressBeyondMemory);
-        }
-        let i = at as usize;
+        let i = place(at)?;
         if i < self.length && i >= self.rom.len() {
             let i = i - self.rom.len();
             if i < self.ram.len() {

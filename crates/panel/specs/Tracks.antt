@@ -1,5 +1,5 @@
--- Which chain a port is recorded on. Assumes nothing.
-use Rattle.std.specs.Prelude.{ℕ, ◌%◌, cond, Some, None, Option, ◌==◌}
+-- The three chains: which one a port is recorded on, and their numbers and names. Assumes nothing.
+use Rattle.std.specs.Prelude.{ℕ, ◌%◌, cond, List, Some, None, Option, ◌==◌, codes}
 use Rattle.panel.specs.declared.track.Track.{Track}
 use Rattle.panel.specs.declared.track.Track.TheVariants.{Pen, X, Y}
 
@@ -17,3 +17,9 @@ abbrev pub track_number : Track → ℕ
 track_number Pen = 0
 track_number X = 1
 track_number Y = 2
+
+-- Their names in a listing.
+abbrev pub track_name : Track → List ℕ
+track_name Pen = codes "pen"
+track_name X = codes "x"
+track_name Y = codes "y"

@@ -1,6 +1,8 @@
 // The three chains of a plot by name, and the ports that are recorded on them.
-ghost use Rattle.std.specs.Prelude.{◌≡◌, ◌<◌};
-ghost use Rattle.panel.specs.Tracks.{track_number, track_of};
+ghost use Rattle.std.specs.Prelude.{◌≡◌, ◌<◌, Some};
+ghost use Rattle.panel.specs.Tracks.{track_name, track_number, track_of};
+
+use std::fmt;
 
 #[derive(Clone, Copy, Debug, PartialEq, Eq)]
 pub enum Track {
@@ -32,5 +34,17 @@ impl Track {
             Track::X => 1,
             Track::Y => 2,
         }
+    }
+}
+
+impl fmt::Display for Track {
+    ghost output = { λ t. Some (track_name t) };
+
+    fn fmt<W: fmt::Write>(&self, f: &mut fmt::Formatter<W>) -> fmt::Result {
+        f.write_str(match self {
+            Track::Pen => "pen",
+            Track::X => "x",
+            Track::Y => "y",
+        })
     }
 }

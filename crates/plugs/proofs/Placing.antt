@@ -1,90 +1,57 @@
 -- What holds of the places of a plug. Assumes nothing.
-use Rattle.std.proofs.Common.{◌≡◌, ℕ, suc, ◌+◌, ◌<◌, ◌≤◌, Bool, true, false, cond, ◌&&◌, ◌||◌, eqb, leb, List, [], ◌∷◌, ◌++◌, length, get_or, take, drop, set, is_some, Some, None, sym, refl, ap, ◌∙◌, subst, arith, eq-eqb, ne_eqb, eqb-true, le-leb}
+use Rattle.std.proofs.Common.{◌≡◌, ℕ, suc, ◌+◌, ◌<◌, ◌≤◌, Bool, true, false, cond, ◌||◌, eqb, leb, List, [], ◌∷◌, ◌++◌, length, get_or, take, drop, set, is_some, Some, None, sym, refl, ap, ◌∙◌, arith, eqb-true, le-leb, ltb, not, rules}
 use borrow.Author.Tests.{eqb-false, lt-leb}
-use lib.Seq.{take-set-lt}
-use Rattle.std.proofs.lemmas.List.{drop_more, length_push, length-take, length-take-le, take_more_set}
+use Rattle.std.proofs.lemmas.Bool.{cond_both}
+use Rattle.std.proofs.lemmas.Bool.Decides.{nat_tests}
+use Rattle.std.proofs.lemmas.List.{drop_more}
+use Rattle.std.proofs.lemmas.List.Quantifiers.{position-Some}
+use Rattle.std.proofs.lemmas.List.Sums.{position_or_len_is}
+use Rattle.std.proofs.Math.Seq.{take-append_seam}
+use Rattle.std.specs.List.{list_all, position, position_or_len, refill}
 use Rattle.denial.specs.Denials.{numbered}
-use Rattle.plugs.specs.Entries.{every, different_beside, different, latest_or, plug_denial}
-use Rattle.plugs.specs.Places.{place_of, entry_of, placed, all_placed}
+use Rattle.plugs.specs.Entries.{different_beside, different, latest_or, plug_denial}
+use Rattle.plugs.specs.Places.{entry_of, placed, all_placed}
 
 -- the entry x at i is the first of what is left there
 pub next : {E : Type 0} (es : List E) (i : ℕ) (x : E) → i < length es → x ≡ get_or es i x → drop i es ≡ x ∷ drop (i + 1) es
 next es i x h is = drop_more es i x h ∙ ap (λ y. y ∷ drop (i + 1) es) (sym is)
 
-module _ {E : Type 0} (test : E → Bool) where
-  -- the test of what is left, after the answer b at x
-  pub every_more : (es : List E) (i : ℕ) (x : E) (b : Bool) → i < length es → x ≡ get_or es i x → b ≡ test x → (b && every test (drop (i + 1) es)) ≡ every test (drop i es)
-  every_more es i x b h is said = ap (λ v. v && every test (drop (i + 1) es)) said ∙ sym (ap (every test) (next es i x h is))
+-- a list written over by one of its own length
+pub refill_same : {E : Type 0} (xs ws : List E) → length ws ≡ length xs → refill (length xs) xs ws ≡ ws
+refill_same xs ws same =
+    ap (λ n. take n (ws ++ drop (length ws) xs)) (sym same) ∙ take-append_seam ws (drop (length ws) xs)
 
 module _ {E : Type 0} (key : E → ℕ) where
-  pub place_within : (es : List E) (k : ℕ) → place_of key es k ≤ length es
-  place_within [] k = omega arith
-  place_within (e ∷ es) k =
-      elim (eqb (key e) k) as (λ v. cond v 0 (suc (place_of key es k)) ≤ suc (length es)) [ true ↦ omega arith | false ↦ omega (arith, place_within es k) ]
+  -- the place of the key of e, or the number of places if it has none
+  abbrev place : E → List E → ℕ
+  place e es = position_or_len (λ x. eqb (key x) (key e)) es
 
-  pub place_here : (es : List E) (i k : ℕ) (x : E) → i < length es → x ≡ get_or es i x → key x ≡ k → place_of key (drop i es) k ≡ 0
-  place_here es i k x h is same =
-      ap (λ l. place_of key l k) (next es i x h is) ∙ ap (λ v. cond v 0 (suc (place_of key (drop (i + 1) es) k))) (eq-eqb (key x) k same)
-
-  pub place_on : (es : List E) (i k : ℕ) (x : E) → i < length es → x ≡ get_or es i x → (key x ≡ k → ⊥) → place_of key (drop i es) k ≡ suc (place_of key (drop (i + 1) es) k)
-  place_on es i k x h is other =
-      ap (λ l. place_of key l k) (next es i x h is) ∙ ap (λ v. cond v 0 (suc (place_of key (drop (i + 1) es) k))) (ne_eqb (key x) k other)
-
-  -- an entry is found at the place of its key
-  pub found_at : (es : List E) (k : ℕ) (x : E) → place_of key es k < length es → x ≡ get_or es (place_of key es k) x → Some x ≡ entry_of key es k
-  found_at [] k x h is = absurd (omega arith)
-  found_at (e ∷ es) k x h is =
-      (elim (eqb (key e) k)
-      as (λ v. cond v 0 (suc (place_of key es k)) < suc (length es) → x ≡ get_or (e ∷ es) (cond v 0 (suc (place_of key es k))) x → Some x ≡ cond v (Some e) (entry_of key es k))
-      [ true ↦ λ h is. ap Some is | false ↦ λ h is. found_at es k x (omega arith) is ]) h is
-
-  pub found_none : (es : List E) (k : ℕ) → length es ≤ place_of key es k → None ≡ entry_of key es k
-  found_none [] k h = refl
-  found_none (e ∷ es) k h =
-      (elim (eqb (key e) k)
-      as (λ v. suc (length es) ≤ cond v 0 (suc (place_of key es k)) → None ≡ cond v (Some e) (entry_of key es k))
-      [ true ↦ λ h. absurd (omega arith) | false ↦ λ h. found_none es k (omega arith) ]) h
-
-  -- an entry takes the place of its key
-  pub put_there : (e : E) (es : List E) → place_of key es (key e) < length es → set es (place_of key es (key e)) e ≡ placed key e es
+  put_there : (e : E) (es : List E) → place e es < length es → set es (place e es) e ≡ placed key e es
   put_there e [] h = absurd (omega arith)
   put_there e (x ∷ xs) h =
       (elim (eqb (key x) (key e))
-      as (λ v. cond v 0 (suc (place_of key xs (key e))) < suc (length xs) → set (x ∷ xs) (cond v 0 (suc (place_of key xs (key e)))) e ≡ cond v (e ∷ xs) (x ∷ placed key e xs))
-      [ true ↦ λ h. refl | false ↦ λ h. ap (λ l. x ∷ l) (put_there e xs (omega arith)) ]) h
+      as (λ v. cond (not v) (1 + place e xs) 0 < suc (length xs) → set (x ∷ xs) (cond (not v) (1 + place e xs) 0) e ≡ cond v (e ∷ xs) (x ∷ placed key e xs))
+      [ true ↦ λ h. refl | false ↦ λ h. let more : 1 + place e xs ≡ suc (place e xs) = omega arith in ap (λ i. set (x ∷ xs) i e) more ∙ ap (λ l. x ∷ l) (put_there e xs (omega arith)) ]) h
 
-  pub put_behind : (e : E) (es : List E) → place_of key es (key e) ≡ length es → es ++ e ∷ [] ≡ placed key e es
+  put_behind : (e : E) (es : List E) → length es ≤ place e es → es ++ e ∷ [] ≡ placed key e es
   put_behind e [] h = refl
   put_behind e (x ∷ xs) h =
       (elim (eqb (key x) (key e))
-      as (λ v. cond v 0 (suc (place_of key xs (key e))) ≡ suc (length xs) → x ∷ (xs ++ e ∷ []) ≡ cond v (e ∷ xs) (x ∷ placed key e xs))
+      as (λ v. suc (length xs) ≤ cond (not v) (1 + place e xs) 0 → x ∷ (xs ++ e ∷ []) ≡ cond v (e ∷ xs) (x ∷ placed key e xs))
       [ true ↦ λ h. absurd (omega arith) | false ↦ λ h. ap (λ l. x ∷ l) (put_behind e xs (omega arith)) ]) h
 
-  -- the same of code's values: es is what is in use, and at the place that was looked up there
-  pub found_by : (es hs : List E) (k at : ℕ) (x : E) → es ≡ hs → at ≡ place_of key es k → at < length es → x ≡ get_or es at x → Some x ≡ entry_of key hs k
-  found_by es hs k at x same is h got =
-      found_at es k x (subst (λ n. n < length es) is h) (subst (λ n. x ≡ get_or es n x) is got) ∙ ap (λ l. entry_of key l k) same
+  -- an entry takes the place of its key
+  pub put_at : (e : E) (es : List E) (at : ℕ) → Some at ≡ position (λ x. eqb (key x) (key e)) es → (at < length es) × (set es at e ≡ placed key e es)
+  put_at e es at is =
+      let found = position-Some (λ x. eqb (key x) (key e)) es at e (sym is) in
+      let same : place e es ≡ at = position_or_len_is (λ x. eqb (key x) (key e)) es at e (omega (arith, found.0)) found.2 (λ _. found.1) in
+      (found.0, ap (λ i. set es i e) (sym same) ∙ put_there e es (omega (arith, same, found.0)))
 
-  pub found_nowhere : (es hs : List E) (k at : ℕ) → es ≡ hs → at ≡ place_of key es k → length es ≤ at → None ≡ entry_of key hs k
-  found_nowhere es hs k at same is h = found_none es k (omega arith) ∙ ap (λ l. entry_of key l k) same
-
-  -- a new entry goes behind those in use
-  pub put_new : (es : List E) (used at : ℕ) (e : E) → at ≡ place_of key (take used es) (key e) → at ≡ used → used < length es → take (at + 1) (set es at e) ≡ placed key e (take used es)
-  put_new es used at e is last h =
-      take_more_set es at e (omega arith) ∙ ap (λ n. take n es ++ e ∷ []) last ∙ put_behind e (take used es) (sym is ∙ last ∙ sym (length-take-le used es (omega arith)))
-
-  -- an entry whose key is in use goes to its place
-  pub put_old : (es : List E) (used at : ℕ) (e : E) → at ≡ place_of key (take used es) (key e) → (at ≡ used → ⊥) → at < length es → take used (set es at e) ≡ placed key e (take used es)
-  put_old es used at e is other h =
-      let long = length-take used es in
-      let within = place_within (take used es) (key e) in
-      take-set-lt used es at e (omega arith) ∙ ap (λ n. set (take used es) n e) is ∙ put_there e (take used es) (omega arith)
-
-  -- with 32 places used and none of them its own, an entry makes 33
-  pub too_many : (es hs : List E) (at : ℕ) (e : E) → es ≡ hs → at ≡ place_of key es (key e) → 32 ≤ at → length es ≤ 32 → 32 < length (placed key e hs)
-  too_many es hs at e same is h few =
-      let last : place_of key es (key e) ≡ length es = omega (arith, place_within es (key e)) in
-      subst (λ l. 32 < length (placed key e l)) same (omega (arith, ap length (put_behind e es last), length_push es e))
+  -- one whose key is new goes behind the others
+  pub put_last : (e : E) (es : List E) → None ≡ position (λ x. eqb (key x) (key e)) es → es ++ e ∷ [] ≡ placed key e es
+  put_last e es none =
+      cond_both (ltb (place e es) (length es)) (Some (place e es)) None (λ o. None ≡ o → es ++ e ∷ [] ≡ placed key e es)
+      (λ _ n. absurd (search (rules, n))) (λ h _. put_behind e es (grind (arith, nat_tests))) none
 
   -- what is found after an entry took its place
   entry_placed : (e : E) (es : List E) (k : ℕ) → entry_of key (placed key e es) k ≡ cond (eqb (key e) k) (Some e) (entry_of key es k)
@@ -162,17 +129,17 @@ module _ {E : Type 0} (key : E → ℕ) where
 
   module _ (in_range : E → Bool) where
     -- an entry out of range is denied, whatever else is wrong
-    pub denied_2 : (es : List E) → false ≡ every in_range es → plug_denial key in_range es ≡ Some (numbered 2)
+    pub denied_2 : (es : List E) → false ≡ list_all in_range es → plug_denial key in_range es ≡ Some (numbered 2)
     denied_2 es bad = ap (λ b. cond b (cond (leb (different key es) 32) None (Some (numbered 3))) (Some (numbered 2))) (sym bad)
 
     -- a 33rd place is denied
-    pub denied_3 : (es : List E) → true ≡ every in_range es → 32 < length (all_placed key [] es) → plug_denial key in_range es ≡ Some (numbered 3)
+    pub denied_3 : (es : List E) → true ≡ list_all in_range es → 32 < length (all_placed key [] es) → plug_denial key in_range es ≡ Some (numbered 3)
     denied_3 es good many =
         ap (λ b. cond b (cond (leb (different key es) 32) None (Some (numbered 3))) (Some (numbered 2))) (sym good)
         ∙ ap (λ b. cond b None (Some (numbered 3))) (lt-leb (different key es) 32 (omega (arith, places_used es)))
 
     -- with no more places the plug is made
-    pub not_denied : (es : List E) → true ≡ every in_range es → length (all_placed key [] es) ≤ 32 → plug_denial key in_range es ≡ None
+    pub not_denied : (es : List E) → true ≡ list_all in_range es → length (all_placed key [] es) ≤ 32 → plug_denial key in_range es ≡ None
     not_denied es good few =
         ap (λ b. cond b (cond (leb (different key es) 32) None (Some (numbered 3))) (Some (numbered 2))) (sym good)
         ∙ ap (λ b. cond b None (Some (numbered 3))) (le-leb (different key es) 32 (omega (arith, places_used es)))

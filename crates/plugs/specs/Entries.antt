@@ -1,11 +1,7 @@
 -- The entries of a plug: a list in which each names something by its key, and the last naming counts. Assumes nothing.
-use Rattle.std.specs.Prelude.{ℕ, ◌+◌, Bool, true, false, cond, ◌&&◌, ◌||◌, List, [], ◌∷◌, Some, None, Option, ◌==◌, nat_le}
+use Rattle.std.specs.Prelude.{ℕ, ◌+◌, Bool, false, cond, ◌||◌, List, [], ◌∷◌, Some, None, Option, ◌==◌, nat_le}
+use Rattle.std.specs.List.{list_all}
 use Rattle.denial.specs.Denials.{Told, numbered}
-
--- Whether each entry passes a test.
-abbrev pub every : {E : Type 0} → (E → Bool) → List E → Bool
-every test [] = true
-every test (e ∷ es) = test e && every test es
 
 -- How many different keys are named, beside those in seen.
 abbrev pub different_beside : {E : Type 0} → (E → ℕ) → (ℕ → Bool) → List E → ℕ
@@ -28,4 +24,4 @@ latest key es k = latest_or key None es k
 -- different one.
 abbrev pub plug_denial : {E : Type 0} → (E → ℕ) → (E → Bool) → List E → Option Told
 plug_denial key in_range es =
-    cond (every in_range es) (cond (nat_le (different key es) 32) None (Some (numbered 3))) (Some (numbered 2))
+    cond (list_all in_range es) (cond (nat_le (different key es) 32) None (Some (numbered 3))) (Some (numbered 2))

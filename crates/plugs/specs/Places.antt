@@ -1,21 +1,16 @@
 -- How a plug keeps its entries: each in a place of its own, an entry with the key of an earlier one in that one's place.
 -- Assumes nothing.
-use Rattle.std.specs.Prelude.{ℕ, suc, min, cond, List, [], ◌∷◌, take, Some, None, Option, ◌==◌}
+use Rattle.std.specs.Prelude.{ℕ, cond, List, [], ◌∷◌, Option, ◌==◌}
+use Rattle.std.specs.List.{find}
 use Rattle.plugs.specs.declared.table.Table.{Table}
 
--- The entries in the places used, of which there are 32 at most.
+-- The entries in the places used.
 abbrev pub held : {E : Type 0} → Table E → List E
-held t = take (min t.used 32) t.entries
-
--- The place of the key k, or the number of places used if it has none.
-abbrev pub place_of : {E : Type 0} → (E → ℕ) → List E → ℕ → ℕ
-place_of key [] k = 0
-place_of key (e ∷ es) k = cond (key e == k) 0 (suc (place_of key es k))
+held t = t.entries.items
 
 -- The entry of the key k.
 abbrev pub entry_of : {E : Type 0} → (E → ℕ) → List E → ℕ → Option E
-entry_of key [] k = None
-entry_of key (e ∷ es) k = cond (key e == k) (Some e) (entry_of key es k)
+entry_of key es k = find (λ e. key e == k) es
 
 -- The places after the entry new has taken its own.
 abbrev pub placed : {E : Type 0} → (E → ℕ) → E → List E → List E

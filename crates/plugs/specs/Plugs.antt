@@ -6,9 +6,8 @@ use Rattle.plugs.specs.Entries.{latest, plug_denial}
 use Rattle.plugs.specs.Places.{entry_of, held}
 use Rattle.plugs.specs.declared.entry.Page.{Page}
 use Rattle.plugs.specs.declared.entry.PatchEntry.{PatchEntry}
-use Rattle.plugs.specs.declared.protect.Protect.{Protect}
-use Rattle.plugs.specs.declared.patch.Patch.{Patch}
-use Rattle.plugs.specs.declared.unmade.Unmade.{Unmade}
+use Rattle.plugs.specs.declared.plug.Plug.{Plug}
+use Rattle.denial.specs.declared.unmade.Unmade.{Unmade}
 
 -- A protect plug's entry names a page, 0 to 127; a patch plug's names an address.
 abbrev pub page_key : Page → ℕ
@@ -50,11 +49,14 @@ abbrev pub patch_denial : List PatchEntry → Option Told
 patch_denial entries = plug_denial patch_key is_patch entries
 
 -- The memory that a plug's value means, over what the memory below means.
-abbrev pub protect_memory : {M : Type 0} → (M → Mem) → Protect M → Mem
-protect_memory memory p = protected (entry_of page_key (held p.pages)) (memory p.below)
+abbrev pub plug_memory : {E M : Type 0} → (E → ℕ) → ((ℕ → Option E) → Mem → Mem) → (M → Mem) → Plug E M → Mem
+plug_memory key altered memory p = altered (entry_of key (held p.entries)) (memory p.below)
 
-abbrev pub patch_memory : {M : Type 0} → (M → Mem) → Patch M → Mem
-patch_memory memory p = patched (entry_of patch_key (held p.entries)) (memory p.below)
+abbrev pub protect_memory : {M : Type 0} → (M → Mem) → Plug Page M → Mem
+protect_memory memory p = plug_memory page_key protected memory p
+
+abbrev pub patch_memory : {M : Type 0} → (M → Mem) → Plug PatchEntry M → Mem
+patch_memory memory p = plug_memory patch_key patched memory p
 
 -- What the making of a plug is to answer: the memory that results, or the denial with the memory below handed back.
 abbrev pub plugged : {M : Type 0} → Option Told → Mem → M → Result Mem (Told × M)
@@ -64,4 +66,4 @@ plugged (Some denied) plug below = Err (denied, below)
 -- What it did answer, seen so; mem is the memory that the plug means.
 abbrev pub made : {P M : Type 0} → (P → Mem) → Result P (Unmade M) → Result Mem (Told × M)
 made mem (Ok p) = Ok (mem p)
-made mem (Err u) = Err (told u.denial, u.below)
+made mem (Err u) = Err (told u.denial, u.given)

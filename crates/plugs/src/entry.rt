@@ -1,6 +1,7 @@
 // An entry of a plug: it names a page or an address by a number, its key.
-ghost use Rattle.std.specs.Prelude.{◌≡◌, ℕ, Bool};
-ghost use Rattle.plugs.specs.Plugs.{is_page, is_patch, page_key, patch_key};
+ghost use Rattle.std.specs.Prelude.{◌≡◌, ℕ, Bool, Option};
+ghost use Rattle.memory.specs.Memory.{Mem};
+ghost use Rattle.plugs.specs.Plugs.{is_page, is_patch, page_key, patch_key, patched, protected};
 
 use memory::BEYOND;
 
@@ -8,6 +9,9 @@ pub trait Entry: Copy + Default {
     ghost key: { Self → ℕ };
 
     ghost ranged: { Self → Bool };
+
+    // The memory that entries, looked up by key, make of the one below.
+    ghost altered: { (ℕ → Option Self) → Mem → Mem };
 
     fn key(&self) -> u32
         ensures { result ≡ key self.now };
@@ -27,6 +31,8 @@ impl Entry for Page {
     ghost key = { page_key };
 
     ghost ranged = { is_page };
+
+    ghost altered = { protected };
 
     fn key(&self) -> u32 {
         u32::from(self.number)
@@ -48,6 +54,8 @@ impl Entry for PatchEntry {
     ghost key = { patch_key };
 
     ghost ranged = { is_patch };
+
+    ghost altered = { patched };
 
     fn key(&self) -> u32 {
         self.address

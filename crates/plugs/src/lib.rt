@@ -4,7 +4,6 @@
 
 pub mod entry;
 pub mod patch;
-mod places;
+pub mod plug;
 pub mod protect;
 mod table;
-pub mod unmade;

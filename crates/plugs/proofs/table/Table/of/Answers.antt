@@ -10,12 +10,12 @@ returns-then-not-all_in_range g c = denied_2 g.E.Entry.key g.E.Entry.ranged c.ar
 
 pub loop-e-init : goal.loop-e-init
 loop-e-init g c =
-    (omega (arith, ap length c.empty-table.ensures), ap (λ places. all_placed g.E.Entry.key places c.args.entries.now) c.empty-table.ensures)
+    (omega (arith, ap length c.new.ensures), ap (λ places. all_placed g.E.Entry.key places c.args.entries.now) c.new.ensures)
 
 pub loop-e-preserved : goal.loop-e-preserved
 loop-e-preserved g c = (
-  c.in_ok-put.ensures.1,
-  ap (λ places. all_placed g.E.Entry.key places (drop (c.loop-e.e-index + 1) c.args.entries.now)) c.in_ok-put.ensures.0
+  c.in_ok-put.ensures.few,
+  ap (λ places. all_placed g.E.Entry.key places (drop (c.loop-e.e-index + 1) c.args.entries.now)) c.in_ok-put.ensures.ok
       ∙ all_more g.E.Entry.key (held c.loop-e.table) c.args.entries.now c.loop-e.e-index c.e-item.result c.loop-e-test.true c.e-item.is
       ∙ c.loop-e.invariant.1,
 )
@@ -27,8 +27,8 @@ returns-in_err-put g c =
     let on = all_more key (held c.loop-e.table) c.args.entries.now c.loop-e.e-index c.e-item.result c.loop-e-test.true c.e-item.is ∙ c.loop-e.invariant.1 in
     let p = err_from_is_err_and c.from_residual.result c.from_residual.ensures.1 in
     rw (p.1, p.2)
-    (denied_3 key g.E.Entry.ranged c.args.entries.now c.if-not-all_in_range.ensures (omega (arith, denied.1, ap length on, no_fewer key (placed key c.e-item.result (held c.loop-e.table)) (drop (c.loop-e.e-index + 1) c.args.entries.now)))
-    ∙ ap Some (sym denied.0))
+    (denied_3 key g.E.Entry.ranged c.args.entries.now c.if-not-all_in_range.ensures (omega (arith, denied.many, ap length on, no_fewer key (placed key c.e-item.result (held c.loop-e.table)) (drop (c.loop-e.e-index + 1) c.args.entries.now)))
+    ∙ ap Some (sym denied.err))
 
 pub returns : goal.returns
 returns g c =

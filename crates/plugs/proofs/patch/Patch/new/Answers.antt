@@ -1,7 +1,0 @@
-use Rattle.plugs.specs.Plugs.{patched}
-use Rattle.plugs.proofs.Plugging.{plugged_in}
-use Rattle.plugs.proofs.patch.Patch.new.Goals as goal
-
-pub returns-in-Ok : goal.returns-in-Ok
-returns-in-Ok g c =
-    plugged_in (λ f. patched f (g.M.Memory.memory c.args.below)) c.args.below _ _ _ c.in-Ok.ensures.0 c.in-Ok.ensures.1

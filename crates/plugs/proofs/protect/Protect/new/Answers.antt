@@ -1,7 +1,0 @@
-use Rattle.plugs.specs.Plugs.{protected}
-use Rattle.plugs.proofs.Plugging.{plugged_in}
-use Rattle.plugs.proofs.protect.Protect.new.Goals as goal
-
-pub returns-in-Ok : goal.returns-in-Ok
-returns-in-Ok g c =
-    plugged_in (λ f. protected f (g.M.Memory.memory c.args.below)) c.args.below _ _ _ c.in-Ok.ensures.0 c.in-Ok.ensures.1

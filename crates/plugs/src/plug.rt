@@ -1,0 +1,39 @@
+// A plug of either kind: entries that name what it alters, over any memory.
+ghost use Rattle.plugs.specs.Entries.{latest, plug_denial};
+ghost use Rattle.plugs.specs.Plugs.{made, plug_memory, plugged};
+ghost use Rattle.std.specs.Prelude.{◌≡◌};
+
+use crate::entry::Entry;
+use crate::table::Table;
+use denial::unmade::Unmade;
+use memory::Memory;
+
+// A plug lies over a memory and alters what is seen of it. Its entries are fixed when it is made.
+#[derive(Drop)]
+pub struct Plug<E, M> {
+    pub(crate) below: M,
+    pub(crate) entries: Table<E>,
+}
+
+impl<E: Entry, M: Memory> Plug<E, M> {
+    // The plug with these entries over the memory below, or 2 or 3 with that memory handed back.
+    pub fn new(below: M, entries: &[E]) -> Result<Plug<E, M>, Unmade<M>>
+        ensures { made (plug_memory E.Entry.key E.Entry.altered M.Memory.memory) result ≡ plugged (plug_denial E.Entry.key E.Entry.ranged entries.now) (E.Entry.altered (latest E.Entry.key entries.now) (M.Memory.memory below)) below }
+    {
+        match Table::of(entries) {
+            Ok(entries) => Ok(Plug { below, entries }),
+            Err(denial) => Err(Unmade {
+                denial,
+                given: below,
+            }),
+        }
+    }
+
+    // Takes the plug off.
+    pub fn into_below(self) -> M
+        ensures { result ≡ self.below }
+    {
+        let Plug { below, entries: _ } = self;
+        below
+    }
+}
