@@ -3,7 +3,7 @@ ghost use Rattle.arithmetic.specs.Flags as of;
 ghost use Rattle.std.specs.Prelude.{false, ◌≡◌};
 
 // F's flags. No operation changes bits 5 and 3: they are carried along, and only a load or an exchange of AF sets them.
-#[derive(Clone, Copy, Debug)]
+#[derive(Clone, Copy, Debug, PartialEq, Eq, Default)]
 pub struct Flags {
     // sign
     pub s: bool,
@@ -21,24 +21,32 @@ pub struct Flags {
     pub c: bool,
 }
 
-impl Flags {
-    // F as a byte.
-    pub fn to_byte(self) -> u8
-        ensures value { result ≡ of.byte self }
-        ensures back { of.from result ≡ self }
-    {
-        self.s as u8 * 128
-            + self.z as u8 * 64
-            + self.bit5 as u8 * 32
-            + self.h as u8 * 16
-            + self.bit3 as u8 * 8
-            + self.pv as u8 * 4
-            + self.n as u8 * 2
-            + self.c as u8
-    }
+// F as a byte.
+impl From<Flags> for u8 {
+    ghost from_gives = { λ flags byte. byte ≡ of.byte flags };
 
-    // The flags that a byte of F holds.
-    pub fn from_byte(byte: u8) -> Flags
+    #[tactic(auto, using(crate::proofs::Packing::unpack_pack))]
+    fn from(flags: Flags) -> u8
+        ensures value { result ≡ of.byte flags }
+        ensures back { of.from result ≡ flags }
+    {
+        flags.s as u8 * 128
+            + flags.z as u8 * 64
+            + flags.bit5 as u8 * 32
+            + flags.h as u8 * 16
+            + flags.bit3 as u8 * 8
+            + flags.pv as u8 * 4
+            + flags.n as u8 * 2
+            + flags.c as u8
+    }
+}
+
+// The flags that a byte of F holds.
+impl From<u8> for Flags {
+    ghost from_gives = { λ byte flags. flags ≡ of.from byte };
+
+    #[tactic(auto, using(crate::proofs::Packing::pack_unpack))]
+    fn from(byte: u8) -> Flags
         ensures value { result ≡ of.from byte }
         ensures back { of.byte result ≡ byte }
     {
@@ -53,7 +61,9 @@ impl Flags {
             c: byte % 2 == 1,
         }
     }
+}
 
+impl Flags {
     // The flags that show a byte: S, Z and even parity of it, H and N 0; C stays.
     pub(crate) fn showing(self, value: u8) -> Flags
         ensures { result ≡ of.showing self value false self.c }

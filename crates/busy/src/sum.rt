@@ -28,7 +28,7 @@ fn words_mixed(sum: u32, words: &[u16]) -> u32 {
 
 pub fn checksum(cpu: &Registers, bytes: &[u8]) -> u32 {
     let set = &cpu.main;
-    let f = set.f.to_byte() & ALIKE;
+    let f = u8::from(set.f) & ALIKE;
     let single = [set.a, f, set.b, set.c, set.d, set.e, set.h, set.l];
     let words = [cpu.ix, cpu.iy, cpu.sp, cpu.pc];
     all_mixed(words_mixed(all_mixed(0, &single), &words), bytes)

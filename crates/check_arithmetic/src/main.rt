@@ -2,19 +2,18 @@
 // print was made by another emulator: bench/z80ex-table.c, which says which flags are left out, and why.
 #![tactic(auto)]
 
-mod byte;
-mod digits;
-mod pair;
+mod case;
 mod sum;
-mod word;
 
+use crate::case::Case;
+use crate::sum::{Answer, checksum};
+use arithmetic::add::negate;
+use arithmetic::flags::Flags;
+use arithmetic::increment::{decrement, increment};
 use arithmetic::operation::Operation;
-use arithmetic::rotate::Rotate;
-use byte::One;
-use digits::Digits;
-use pair::Two;
+use arithmetic::rotate::{Rotate, rld, rrd};
+use arithmetic::{bits, block, carry, decimal, logic, port, wide};
 use std::io;
-use word::Wide;
 
 // S, Z, H, P/V, N and C. Bits 5 and 3 are left out: the Z80 takes them from a result, the HD64180 carries them along.
 const ALL: u8 = 0xD7;
@@ -27,75 +26,17 @@ const COUNTED: u8 = 0x42;
 // The whole of F, where no flag changes.
 const WHOLE: u8 = 0xFF;
 
-fn row(rt: &HostRuntime, name: &str, mask: u8, sum: u32) -> io::Result<()> {
+// A row: the name, the mask of the flags and the checksum.
+fn row<C: Case, A: Answer, F: Fn(C, Flags) -> (A, Flags)>(
+    rt: &HostRuntime,
+    name: &str,
+    operation: F,
+    mask: u8,
+) -> io::Result<()>
+    requires { F.IsAlwaysCallable operation }
+{
+    let sum = checksum(operation, mask);
     println!(rt; "{name} {mask:02X} {sum:08X}")
-}
-
-fn one(rt: &HostRuntime, name: &str, operation: One, mask: u8) -> io::Result<()> {
-    row(rt, name, mask, operation.sum(mask))
-}
-
-fn two(rt: &HostRuntime, name: &str, operation: Two, mask: u8) -> io::Result<()> {
-    row(rt, name, mask, operation.sum(mask))
-}
-
-fn rotates(rt: &HostRuntime) -> io::Result<()> {
-    for (name, rotate) in [
-        ("RLC", Rotate::Rlc),
-        ("RRC", Rotate::Rrc),
-        ("RL", Rotate::Rl),
-        ("RR", Rotate::Rr),
-        ("SLA", Rotate::Sla),
-        ("SRA", Rotate::Sra),
-        ("SRL", Rotate::Srl),
-    ] {
-        one(rt, name, One::Rotate(rotate), ALL)?;
-    }
-    for (name, rotate) in [
-        ("RLCA", Rotate::Rlc),
-        ("RRCA", Rotate::Rrc),
-        ("RLA", Rotate::Rl),
-        ("RRA", Rotate::Rr),
-    ] {
-        one(rt, name, One::Accumulator(rotate), ALL)?;
-    }
-    for (name, digits) in [("RLD", Digits::Left), ("RRD", Digits::Right)] {
-        row(rt, name, ALL, digits.sum(ALL))?;
-    }
-    Ok(())
-}
-
-fn bits(rt: &HostRuntime) -> io::Result<()> {
-    for number in 0..8u8 {
-        println!(rt; "bit {number}")?;
-        one(rt, "BIT", One::Test(number), TESTED)?;
-        one(rt, "RES", One::Reset(number), WHOLE)?;
-        one(rt, "SET", One::Set(number), WHOLE)?;
-    }
-    Ok(())
-}
-
-fn blocks(rt: &HostRuntime) -> io::Result<()> {
-    two(rt, "CPI, BC = 0", Two::Compare(0), ALL)?;
-    two(rt, "CPI, BC > 0", Two::Compare(1), ALL)?;
-    one(rt, "LDI, BC = 0", One::Transfer(0), ALL)?;
-    one(rt, "LDI, BC > 0", One::Transfer(1), ALL)?;
-    two(rt, "INI", Two::Port, COUNTED)?;
-    two(rt, "OUTI", Two::Port, COUNTED)?;
-    one(rt, "IN D,(C)", One::Input, ALL)?;
-    one(rt, "LD A,I, IEF2 = 0", One::Load(false), ALL)?;
-    one(rt, "LD A,I, IEF2 = 1", One::Load(true), ALL)
-}
-
-fn words(rt: &HostRuntime) -> io::Result<()> {
-    for (name, operation) in [
-        ("ADD HL", Wide::Add),
-        ("ADC HL", Wide::AddWithCarry),
-        ("SBC HL", Wide::SubtractWithCarry),
-    ] {
-        row(rt, name, NOT_HALF, operation.sum(NOT_HALF))?;
-    }
-    Ok(())
 }
 
 fn operations(rt: &HostRuntime) -> io::Result<()> {
@@ -109,19 +50,141 @@ fn operations(rt: &HostRuntime) -> io::Result<()> {
         ("OR", Operation::Or),
         ("CP", Operation::Compare),
     ] {
-        two(rt, name, Two::Operate(operation), ALL)?;
+        row(rt, name, |(a, b), flags| operation.apply(a, b, flags), ALL)?;
     }
-    two(rt, "TST", Two::Test, ALL)
+    row(rt, "TST", |(a, b), flags| port::test(a, b, flags), ALL)
 }
 
 fn accumulator(rt: &HostRuntime) -> io::Result<()> {
-    one(rt, "NEG", One::Negate, ALL)?;
-    one(rt, "CPL", One::Complement, ALL)?;
-    one(rt, "SCF", One::SetCarry, ALL)?;
-    one(rt, "CCF", One::ComplementCarry, NOT_HALF)?;
-    one(rt, "INC", One::Increment, ALL)?;
-    one(rt, "DEC", One::Decrement, ALL)?;
-    one(rt, "DAA", One::Adjust, ALL)
+    row(rt, "NEG", negate, ALL)?;
+    row(rt, "CPL", logic::complement, ALL)?;
+    row(rt, "SCF", carry::set, ALL)?;
+    row(rt, "CCF", carry::complement, NOT_HALF)?;
+    row(rt, "INC", increment, ALL)?;
+    row(rt, "DEC", decrement, ALL)?;
+    row(rt, "DAA", decimal::adjust, ALL)
+}
+
+fn rotates(rt: &HostRuntime) -> io::Result<()> {
+    for (name, rotate) in [
+        ("RLC", Rotate::Rlc),
+        ("RRC", Rotate::Rrc),
+        ("RL", Rotate::Rl),
+        ("RR", Rotate::Rr),
+        ("SLA", Rotate::Sla),
+        ("SRA", Rotate::Sra),
+        ("SRL", Rotate::Srl),
+    ] {
+        row(rt, name, |value, flags| rotate.apply(value, flags), ALL)?;
+    }
+    for (name, rotate) in [
+        ("RLCA", Rotate::Rlc),
+        ("RRCA", Rotate::Rrc),
+        ("RLA", Rotate::Rl),
+        ("RRA", Rotate::Rr),
+    ] {
+        row(rt, name, |a, flags| rotate.accumulator(a, flags), ALL)?;
+    }
+    row(rt, "RLD", |(a, byte), flags| rld(a, byte, flags), ALL)?;
+    row(rt, "RRD", |(a, byte), flags| rrd(a, byte, flags), ALL)
+}
+
+fn bits(rt: &HostRuntime) -> io::Result<()> {
+    for number in 0..8u8 {
+        println!(rt; "bit {number}")?;
+        row(
+            rt,
+            "BIT",
+            |value, flags| bits::test(number, value, flags),
+            TESTED,
+        )?;
+        row(
+            rt,
+            "RES",
+            |value, flags| bits::reset(number, value, flags),
+            WHOLE,
+        )?;
+        row(
+            rt,
+            "SET",
+            |value, flags| bits::set(number, value, flags),
+            WHOLE,
+        )?;
+    }
+    Ok(())
+}
+
+fn blocks(rt: &HostRuntime) -> io::Result<()> {
+    row(
+        rt,
+        "CPI, BC = 0",
+        |(a, byte), flags| block::compare(a, byte, 0, flags),
+        ALL,
+    )?;
+    row(
+        rt,
+        "CPI, BC > 0",
+        |(a, byte), flags| block::compare(a, byte, 1, flags),
+        ALL,
+    )?;
+    row(
+        rt,
+        "LDI, BC = 0",
+        |byte, flags| block::transfer(byte, 0, flags),
+        ALL,
+    )?;
+    row(
+        rt,
+        "LDI, BC > 0",
+        |byte, flags| block::transfer(byte, 1, flags),
+        ALL,
+    )?;
+    row(
+        rt,
+        "INI",
+        |(b, byte), flags| block::port(b, byte, flags),
+        COUNTED,
+    )?;
+    row(
+        rt,
+        "OUTI",
+        |(b, byte), flags| block::port(b, byte, flags),
+        COUNTED,
+    )?;
+    row(rt, "IN D,(C)", port::input, ALL)?;
+    row(
+        rt,
+        "LD A,I, IEF2 = 0",
+        |byte, flags| port::load(byte, false, flags),
+        ALL,
+    )?;
+    row(
+        rt,
+        "LD A,I, IEF2 = 1",
+        |byte, flags| port::load(byte, true, flags),
+        ALL,
+    )
+}
+
+fn words(rt: &HostRuntime) -> io::Result<()> {
+    row(
+        rt,
+        "ADD HL",
+        |(a, b), flags| wide::add(a, b, flags),
+        NOT_HALF,
+    )?;
+    row(
+        rt,
+        "ADC HL",
+        |(a, b), flags| wide::add_with_carry(a, b, flags),
+        NOT_HALF,
+    )?;
+    row(
+        rt,
+        "SBC HL",
+        |(a, b), flags| wide::subtract_with_carry(a, b, flags),
+        NOT_HALF,
+    )
 }
 
 fn main(rt: HostRuntime) -> io::Result<()> {

@@ -62,7 +62,7 @@ pub(crate) fn holds<M: Memory, P>(rt: &impl Abort, card: &Card<M, P>, bytes: &[u
 pub(crate) fn set_bytes(set: RegisterSet) -> [u8; 8] {
     [
         set.a,
-        set.f.to_byte(),
+        u8::from(set.f),
         set.b,
         set.c,
         set.d,

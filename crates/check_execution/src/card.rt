@@ -172,7 +172,7 @@ pub fn serves<M: Memory>(
 
 fn same_set(a: &RegisterSet, b: &RegisterSet) -> bool {
     (a.a == b.a)
-        & (a.f.to_byte() == b.f.to_byte())
+        & (u8::from(a.f) == u8::from(b.f))
         & (a.b == b.b)
         & (a.c == b.c)
         & (a.d == b.d)

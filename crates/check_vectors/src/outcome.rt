@@ -48,7 +48,7 @@ fn mode(mode: Mode) -> u32 {
 
 // In the order of MAIN and ALTERNATE.
 pub fn set(set: &RegisterSet) -> [u32; 8] {
-    let f = set.f.to_byte();
+    let f = u8::from(set.f);
     [
         set.a as u32,
         f as u32,

@@ -20,7 +20,7 @@ impl Reader<'_> {
         let (b, c) = self.pair()?;
         let (d, e) = self.pair()?;
         let (h, l) = self.pair()?;
-        let f = Flags::from_byte(f);
+        let f = Flags::from(f);
         Some(RegisterSet {
             a,
             f,

@@ -46,7 +46,7 @@ pub fn stack_pair(cpu: &Registers, stacked: StackPair) -> u16
         StackPair::Bc => pair(cpu, Pair::Bc),
         StackPair::De => pair(cpu, Pair::De),
         StackPair::Hl => pair(cpu, Pair::Hl),
-        StackPair::Af => u16::from_be_bytes([cpu.main.a, cpu.main.f.to_byte()]),
+        StackPair::Af => u16::from_be_bytes([cpu.main.a, u8::from(cpu.main.f)]),
     }
 }
 
@@ -60,7 +60,7 @@ pub fn set_stack_pair(cpu: &mut Registers, stacked: StackPair, value: u16)
         StackPair::Af => {
             let [high, low] = value.to_be_bytes();
             cpu.main.a = high;
-            cpu.main.f = Flags::from_byte(low);
+            cpu.main.f = Flags::from(low);
         }
     }
 }

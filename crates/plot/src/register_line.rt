@@ -20,7 +20,7 @@ impl fmt::Display for RegisterLine {
         let pc = self.cpu.pc;
         let sp = self.cpu.sp;
         let a = self.cpu.main.a;
-        let flags = self.cpu.main.f.to_byte();
+        let flags = u8::from(self.cpu.main.f);
         let cbar = self.window.cbar;
         write!(
             f,

@@ -1,11 +1,11 @@
 // Everything that reset sets, but for the window's three bytes, which stand in a record of their own.
-ghost use Rattle.registers.specs.Registers.{fresh_registers, no_bytes};
+ghost use Rattle.registers.specs.Registers.{fresh_registers};
 ghost use Rattle.std.specs.Prelude.{◌≡◌};
 
 use arithmetic::flags::Flags;
 
 // A, F and the six byte registers that make pairs; there are two such sets.
-#[derive(Clone, Copy, Debug)]
+#[derive(Clone, Copy, Debug, PartialEq, Eq, Default)]
 pub struct RegisterSet {
     pub a: u8,
     pub f: Flags,
@@ -32,7 +32,7 @@ pub enum Mode {
     Asleep,
 }
 
-#[derive(Clone, Copy, Debug)]
+#[derive(Clone, Copy, Debug, PartialEq, Eq)]
 pub struct Registers {
     pub main: RegisterSet,
     pub alternate: RegisterSet,
@@ -53,31 +53,14 @@ pub struct Registers {
     pub icr: u8,
 }
 
-impl RegisterSet {
-    fn new() -> RegisterSet
-        ensures { result ≡ no_bytes }
-    {
-        RegisterSet {
-            a: 0,
-            f: Flags::from_byte(0),
-            b: 0,
-            c: 0,
-            d: 0,
-            e: 0,
-            h: 0,
-            l: 0,
-        }
-    }
-}
-
 impl Registers {
     // The registers of a card that was just made.
     pub fn new() -> Registers
         ensures { result ≡ fresh_registers }
     {
         Registers {
-            main: RegisterSet::new(),
-            alternate: RegisterSet::new(),
+            main: RegisterSet::default(),
+            alternate: RegisterSet::default(),
             ix: 0,
             iy: 0,
             sp: 0,
