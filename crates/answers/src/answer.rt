@@ -3,7 +3,7 @@ use card::ran::Ran;
 use denial::{Denial, Fault};
 use machine::cost::Cost;
 
-#[derive(Drop)]
+#[derive(Debug, Drop, PartialEq, Eq)]
 pub enum Answer {
     Step(Result<Cost, Fault>),
     Run(Result<Ran, Denial>),

@@ -24,17 +24,18 @@ seen memory state r c = executing.seen memory state r c.machine
 
 -- A stop, a fault and a run's answer.
 abbrev pub stop_of : Stop → running.Stop
-stop_of stop.Fault = running.fault
+stop_of (stop.Fault why) = running.fault
 stop_of stop.Halted = running.halted
 stop_of stop.Spent = running.spent
 
-abbrev pub fault_of : Option Fault → Option Faulted
-fault_of (Some f) = Some (record { denial = told f.denial; pc = f.pc })
-fault_of None = None
+abbrev pub fault_of : Stop → Option Faulted
+fault_of (stop.Fault f) = Some (record { denial = told f.denial; pc = f.pc })
+fault_of stop.Halted = None
+fault_of stop.Spent = None
 
 abbrev pub ran_of : Ran → running.Ran
 ran_of r =
-    record { stop = stop_of r.stop; steps = r.steps; tally = record { cycles = r.cycles; states = r.states }; fault = fault_of r.fault }
+    record { stop = stop_of r.stop; steps = r.steps; tally = record { cycles = r.cycles; states = r.states }; fault = fault_of r.stop }
 
 -- What a run came to, without the list of its steps.
 pub record Came (S : Type 0) : Type 0 where

@@ -58,7 +58,7 @@ impl<M: Memory, P: Panel> Card<M, P> {
         ensures run { ran M.memory P.state result self.new ≡ run_called P.make budget (model M.memory P.state self.old) }
         ensures few { Each ChangesFew (running.run P.make budget (model M.memory P.state self.old)).steps }
     {
-        if budget < 1 || budget > MOST {
+        if !(1..=MOST).contains(&budget) {
             return Err(Denial::BudgetOutOfRange);
         }
         Ok(self.run_on(budget))
@@ -68,49 +68,34 @@ impl<M: Memory, P: Panel> Card<M, P> {
         requires { budget ≤ 1000000 }
         ensures { came M.memory P.state result self.new ≡ came_to (running.run P.make budget (model M.memory P.state self.old)) }
     {
-        let mut cycles = 0u64;
-        let mut states = 0u64;
-        for i in 0..budget {
-            let cost = match self.step() {
-                Ok(cost) => cost,
+        let mut ran = Ran {
+            stop: Stop::Spent,
+            steps: 0,
+            cycles: 0,
+            states: 0,
+        };
+        // each step takes states, so the budget is spent after no more steps than it has states
+        while ran.steps < budget {
+            match self.step() {
+                Ok(cost) => ran.count(cost),
                 Err(fault) => {
                     return Ran {
-                        stop: Stop::Fault,
-                        steps: i,
-                        cycles,
-                        states,
-                        fault: Some(fault),
+                        stop: Stop::Fault(fault),
+                        ..ran
                     };
                 }
-            };
-            cycles += cost.cycles as u64;
-            states += cost.states as u64;
+            }
             if rests(self.machine.cpu.mode) {
                 return Ran {
                     stop: Stop::Halted,
-                    steps: i + 1,
-                    cycles,
-                    states,
-                    fault: None,
+                    ..ran
                 };
             }
-            if states >= budget as u64 {
-                return Ran {
-                    stop: Stop::Spent,
-                    steps: i + 1,
-                    cycles,
-                    states,
-                    fault: None,
-                };
+            if ran.states >= budget as u64 {
+                return ran;
             }
         }
-        Ran {
-            stop: Stop::Spent,
-            steps: budget,
-            cycles,
-            states,
-            fault: None,
-        }
+        ran
     }
 
     // All registers as after making; memory and panel are not touched.

@@ -35,7 +35,6 @@ fn ran(stop: Stop, steps: u32, cycles: u64, states: u64) -> Ran {
         steps,
         cycles,
         states,
-        fault: None,
     }
 }
 
@@ -110,14 +109,13 @@ fn spent(rt: HostRuntime) -> Result<(), Fail> {
 #[test]
 fn fault(rt: HostRuntime) -> Result<(), Fail> {
     let ran = Ran {
-        stop: Stop::Fault,
-        steps: 0,
-        cycles: 0,
-        states: 0,
-        fault: Some(Fault {
+        stop: Stop::Fault(Fault {
             denial: Denial::PanelFull,
             pc: 0x1234,
         }),
+        steps: 0,
+        cycles: 0,
+        states: 0,
     };
     lists(
         &rt,

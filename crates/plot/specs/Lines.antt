@@ -7,17 +7,12 @@ use Rattle.registers.specs.declared.window.Window.{Window}
 use Rattle.panel.specs.declared.record.Record.{Record}
 use Rattle.panel.specs.declared.track.Track.{Track}
 use Rattle.panel.specs.declared.track.Track.TheVariants.{Pen, X, Y}
-use Rattle.processor.specs.Run.{Ran, Stop, fault, halted, spent}
+use Rattle.processor.specs.Run.{Ran}
+use Rattle.card.specs.Stops.{stop_name}
 
 -- The line feed behind each line.
 abbrev pub line : List ℕ → List ℕ
 line text = text ++ (10 ∷ [])
-
--- A card that is asleep counts as halted.
-abbrev pub stop_name : Stop → List ℕ
-stop_name fault = codes "fault"
-stop_name halted = codes "halted"
-stop_name spent = codes "spent"
 
 -- How a run ended; the sums are decimal.
 unfoldable pub run_line : Ran → List ℕ

@@ -1,6 +1,7 @@
 // The first line: how a run ended, and what it took.
 ghost use Rattle.card.specs.Cards.{ran_of, stop_of};
-ghost use Rattle.plot.specs.Lines.{run_line, stop_name};
+ghost use Rattle.card.specs.Stops.{stop_name};
+ghost use Rattle.plot.specs.Lines.{run_line};
 ghost use Rattle.std.specs.Prelude.{◌≡◌, Some};
 
 use card::ran::{Ran, Stop};
@@ -13,7 +14,7 @@ fn name(stop: Stop) -> &'static str
     ensures { result.now ≡ stop_name (stop_of stop) }
 {
     match stop {
-        Stop::Fault => "fault",
+        Stop::Fault(_) => "fault",
         Stop::Halted => "halted",
         Stop::Spent => "spent",
     }
