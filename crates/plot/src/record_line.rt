@@ -5,7 +5,6 @@ ghost use Rattle.std.specs.Prelude.{◌≡◌, Some};
 use panel::record::Record;
 use panel::track::Track;
 use std::fmt;
-use text::hex::{HexByte, HexWord};
 
 #[derive(Clone, Copy)]
 pub struct RecordLine {
@@ -27,12 +26,13 @@ fn name(track: Track) -> &'static str
 impl fmt::Display for RecordLine {
     ghost output = { λ l. Some (record_line l.track l.number l.record) };
 
+    #[tactic(auto, using(text::proofs::Written::printed), unfolding(crate::specs::Lines::record_line))]
     fn fmt<W: fmt::Write>(&self, f: &mut fmt::Formatter<W>) -> fmt::Result {
         let track = name(self.track);
         let number = self.number;
-        let port = HexWord(self.record.port);
-        let byte = HexByte(self.record.byte);
+        let port = self.record.port;
+        let byte = self.record.byte;
         let next = self.record.next;
-        write!(f, "{track} {number} {port} {byte} {next}")
+        write!(f, "{track} {number} {port:04X} {byte:02X} {next}")
     }
 }

@@ -5,7 +5,6 @@ ghost use Rattle.std.specs.Prelude.{Some};
 use registers::registers::Registers;
 use registers::window::Window;
 use std::fmt;
-use text::hex::{HexByte, HexWord};
 
 #[derive(Clone, Copy)]
 pub struct RegisterLine {
@@ -16,12 +15,16 @@ pub struct RegisterLine {
 impl fmt::Display for RegisterLine {
     ghost output = { λ l. Some (register_line l.cpu l.window) };
 
+    #[tactic(auto, using(text::proofs::Written::printed), unfolding(crate::specs::Lines::register_line))]
     fn fmt<W: fmt::Write>(&self, f: &mut fmt::Formatter<W>) -> fmt::Result {
-        let pc = HexWord(self.cpu.pc);
-        let sp = HexWord(self.cpu.sp);
-        let a = HexByte(self.cpu.main.a);
-        let flags = HexByte(u8::from(self.cpu.main.f));
-        let cbar = HexByte(self.window.cbar);
-        write!(f, "pc={pc} sp={sp} af={a}{flags} cbar={cbar}")
+        let pc = self.cpu.pc;
+        let sp = self.cpu.sp;
+        let a = self.cpu.main.a;
+        let flags = u8::from(self.cpu.main.f);
+        let cbar = self.window.cbar;
+        write!(
+            f,
+            "pc={pc:04X} sp={sp:04X} af={a:02X}{flags:02X} cbar={cbar:02X}"
+        )
     }
 }

@@ -1,5 +1,4 @@
 // Numbers as text: in hexadecimal, written and read, and in columns.
 #![tactic(auto)]
 
-pub mod columns;
 pub mod hex;
