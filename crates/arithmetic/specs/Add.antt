@@ -25,6 +25,13 @@ sum_overflows m a b v = alike (negative m a) (negative m b) && not (alike (negat
 abbrev pub difference_overflows : ℕ → ℕ → ℕ → ℕ → Bool
 difference_overflows m a b v = not (alike (negative m a) (negative m b)) && not (alike (negative m a) (negative m v))
 
+-- The row of a sum v at any width, and that of a difference: H stays.
+abbrev pub sum_flags : ℕ → ℕ → ℕ → Bool → ℕ → Flags → Flags
+sum_flags m a b k v f = row f (negative m v) (zero v) f.h (sum_overflows m a b v) false (carries m a b k)
+
+abbrev pub difference_flags : ℕ → ℕ → ℕ → Bool → ℕ → Flags → Flags
+difference_flags m a b k v f = row f (negative m v) (zero v) f.h (difference_overflows m a b v) true (borrows a b k)
+
 -- The row of a sum v of bytes. H is a carry out of the low digit.
 abbrev pub sum_row : ℕ → ℕ → Bool → ℕ → Flags → Flags
 sum_row a b k v f =

@@ -3,41 +3,27 @@ ghost use Rattle.arithmetic.specs.Add as of;
 ghost use Rattle.std.specs.Prelude.{◌≡◌};
 
 use crate::flags::Flags;
+use crate::sum::{difference, sum};
 
-// a + b, and one more with a carry.
+// a + b, and one more with a carry. H is a carry out of the low digit.
 fn plus(a: u8, b: u8, carry: bool, flags: Flags) -> (u8, Flags)
     ensures { result ≡ of.plus a b carry flags }
 {
-    let sum = u16::from(a) + u16::from(b) + u16::from(carry);
-    let value = (sum % 256) as u8;
-    let flags = Flags {
-        s: value >= 128,
-        z: value == 0,
-        h: a % 16 + b % 16 + u8::from(carry) >= 16,
-        pv: ((a >= 128) == (b >= 128)) & ((a >= 128) != (value >= 128)),
-        n: false,
-        c: sum >= 256,
-        ..flags
-    };
-    (value, flags)
+    let (value, shown) = sum::<256>(u32::from(a), u32::from(b), carry, flags);
+    let h = a % 16 + b % 16 + u8::from(carry) >= 16;
+    (value as u8, Flags { h, ..shown })
 }
 
-// a - b, and one less with a borrow.
+// a - b, and one less with a borrow. H is a borrow into the low digit.
 fn minus(a: u8, b: u8, borrow: bool, flags: Flags) -> (u8, Flags)
     ensures { result ≡ of.minus a b borrow flags }
 {
-    let value = a.wrapping_sub(b).wrapping_sub(u8::from(borrow));
-    let flags = Flags {
-        s: value >= 128,
-        z: value == 0,
-        h: a % 16 < b % 16 + u8::from(borrow),
-        pv: ((a >= 128) != (b >= 128)) & ((a >= 128) != (value >= 128)),
-        n: true,
-        c: u16::from(a) < u16::from(b) + u16::from(borrow),
-        ..flags
-    };
-    (value, flags)
+    let (value, shown) = difference::<256>(u32::from(a), u32::from(b), borrow, flags);
+    let h = a % 16 < b % 16 + u8::from(borrow);
+    (value as u8, Flags { h, ..shown })
 }
+
+// The four with and without carry stay four functions: each is one line, and one with a flag for the carry would be no plainer.
 
 // ADD A
 pub(crate) fn add(a: u8, b: u8, flags: Flags) -> (u8, Flags)

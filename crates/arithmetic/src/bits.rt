@@ -17,6 +17,8 @@ pub fn test(number: u8, value: u8, flags: Flags) -> (u8, Flags)
     (value, flags)
 }
 
+// Set and reset stay two functions of one line: they differ in the operator, not in a constant.
+
 // SET
 pub fn set(number: u8, value: u8, flags: Flags) -> (u8, Flags)
     ensures { result ≡ of.set number value flags }

@@ -8,24 +8,12 @@ use crate::flags::Flags;
 pub fn set(a: u8, flags: Flags) -> (u8, Flags)
     ensures { result ≡ of.set a flags }
 {
-    let flags = Flags {
-        h: false,
-        n: false,
-        c: true,
-        ..flags
-    };
-    (a, flags)
+    (a, flags.carrying(true))
 }
 
 // CCF
 pub fn complement(a: u8, flags: Flags) -> (u8, Flags)
     ensures { result ≡ of.complement a flags }
 {
-    let flags = Flags {
-        h: false,
-        n: false,
-        c: !flags.c,
-        ..flags
-    };
-    (a, flags)
+    (a, flags.carrying(!flags.c))
 }

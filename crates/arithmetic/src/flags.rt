@@ -77,9 +77,22 @@ impl Flags {
             ..self
         }
     }
+
+    // C as given, H and N 0; the rest stays.
+    pub(crate) fn carrying(self, c: bool) -> Flags
+        ensures { result ≡ of.row self self.s self.z false self.pv false c }
+    {
+        Flags {
+            h: false,
+            n: false,
+            c,
+            ..self
+        }
+    }
 }
 
 // Whether a byte has an even number of ones.
+#[tactic(auto, using(crate::proofs::Ones::ones_of_byte))]
 pub fn even_parity(byte: u8) -> bool
     ensures { result ≡ of.even_parity byte }
 {

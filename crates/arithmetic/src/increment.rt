@@ -5,6 +5,8 @@ ghost use Rattle.std.specs.Prelude.{◌≡◌};
 use crate::add::{add, subtract};
 use crate::flags::Flags;
 
+// They stay two functions of two lines each: one that took the addition or the subtraction would be longer than both.
+
 // INC
 pub fn increment(value: u8, flags: Flags) -> (u8, Flags)
     ensures { result ≡ of.increment value flags }

@@ -13,4 +13,5 @@ pub mod multiply;
 pub mod operation;
 pub mod port;
 pub mod rotate;
+mod sum;
 pub mod wide;

@@ -4,6 +4,8 @@ ghost use Rattle.std.specs.Prelude.{◌≡◌};
 
 use crate::flags::Flags;
 
+// Left and right stay two functions, of the digits too: they differ in each step, so that one with a direction would be no plainer.
+
 // One place to the left: `low` comes in, and bit 7 goes to C.
 fn left(value: u8, low: bool, flags: Flags) -> (u8, Flags)
     ensures { result ≡ of.left value low flags }
@@ -68,13 +70,7 @@ impl Rotate {
         ensures { result ≡ of.accumulator self a flags }
     {
         let (value, rotated) = self.apply(a, flags);
-        let flags = Flags {
-            h: false,
-            n: false,
-            c: rotated.c,
-            ..flags
-        };
-        (value, flags)
+        (value, flags.carrying(rotated.c))
     }
 }
 

@@ -1,11 +1,21 @@
 -- The pages that a window opens on. Assumes nothing.
-use Rattle.std.proofs.Common.{◌≡◌, ℕ, zero, suc, ◌+◌, ◌*◌, ◌/◌, ◌%◌, ◌<◌, true, false, eqb, sym, refl, ap, ◌∙◌, ⊎_elim, add-one, arith, eq-eqb, eqb-true}
-use Rattle.std.proofs.lemmas.Bool.{cases_eq, or_cases, or_from, or_left, or_right}
+use Rattle.std.specs.Prelude.{◌||◌}
+use Rattle.std.specs.List.{list_any, range_with_len}
+use Rattle.std.proofs.Math.Bool.{or-false, or_assoc}
+use Rattle.std.proofs.Common.{◌≡◌, ℕ, zero, suc, ◌+◌, ◌*◌, ◌/◌, ◌%◌, ◌<◌, true, eqb, sym, refl, ap, ◌∙◌, ⊎_elim, add-one, arith, eq-eqb, eqb-true}
+use Rattle.std.proofs.lemmas.Bool.{cases_eq, or_cases, or_left, or_right}
 use Rattle.registers.specs.declared.window.Window.{Window}
 use Rattle.registers.specs.Window.{shown_among, shown_page, opens_on, OpensOn, physical_of, page_of, logical_page, WindowLaws}
 
-pub among_none : (w : Window) (n q : ℕ) → shown_among w n q ≡ false → eqb (shown_page w n) q ≡ false → shown_among w (n + 1) q ≡ false
-among_none w n q before here = ap (λ k. shown_among w k q) (add-one n) ∙ or_from _ _ before here
+-- the test over n further pages, from a on
+pub among_any : (w : Window) (q a n m : ℕ) → a + n ≡ m → shown_among w m q ≡ shown_among w a q || list_any (λ p. eqb (shown_page w p) q) (range_with_len a n)
+among_any w q a zero m e =
+    let same : m ≡ a = omega arith in ap (λ k. shown_among w k q) same ∙ sym (or-false (shown_among w a q))
+among_any w q a (suc n) m e =
+    let rest = list_any (λ p. eqb (shown_page w p) q) (range_with_len (a + 1) n) in
+    among_any w q (a + 1) n m (omega arith)
+    ∙ ap (λ k. shown_among w k q || rest) (add-one a)
+    ∙ or_assoc (shown_among w a q) (eqb (shown_page w a) q) rest
 
 pub among_some : (w : Window) (n p q : ℕ) → p < n → shown_page w p ≡ q → shown_among w n q ≡ true
 among_some w zero p q h is = absurd (omega arith)

@@ -1,5 +1,5 @@
 -- How the window shows sixteen of the 128 physical pages of 4,096 bytes. Assumes nothing.
-use Rattle.std.specs.Prelude.{◌≡◌, ℕ, zero, suc, ◌+◌, ◌*◌, ◌/◌, ◌%◌, ◌<◌, Bool, true, false, cond, ◌||◌, ◌==◌, nat_le}
+use Rattle.std.specs.Prelude.{◌≡◌, ℕ, zero, suc, ◌+◌, ◌*◌, ◌/◌, ◌%◌, ◌<◌, Bool, true, false, cond, ◌||◌, ◌==◌, nat_le, List, codes}
 use Rattle.registers.specs.declared.window.Area.{Area}
 use Rattle.registers.specs.declared.window.Area.TheVariants.{Common0, Bank, Common1}
 use Rattle.registers.specs.declared.window.Window.{Window}
@@ -14,6 +14,12 @@ ba w = w.cbar % 16
 -- The area that the logical page p lies in: common area 1 has the first claim.
 abbrev pub area_of : Window → ℕ → Area
 area_of w p = cond (nat_le (ca w) p) Common1 (cond (nat_le (ba w) p) Bank Common0)
+
+-- An area's name.
+abbrev pub area_name : Area → List ℕ
+area_name Common0 = codes "common area 0"
+area_name Bank = codes "bank area"
+area_name Common1 = codes "common area 1"
 
 -- The base that an area adds to the page.
 abbrev pub base_of : Window → Area → ℕ

@@ -5,6 +5,7 @@ ghost use Rattle.registers.specs.Ports.{is_internal, itc_stored, port_byte, port
 use crate::registers::Registers;
 use crate::window::Window;
 
+// Ports stay numbers: the data book numbers them, and an enum of the six would be one list more than the two matches.
 impl Registers {
     // Whether a port is the processor's own: its upper half is 0, and ICR has its bits 7 and 6.
     pub fn owns(&self, port: u16) -> bool

@@ -1,6 +1,9 @@
 // The window: the three bytes that say which sixteen physical pages the 64 KiB logical space shows.
-ghost use Rattle.std.specs.Prelude.{◌≡◌, ◌<◌};
-ghost use Rattle.registers.specs.Window.{OpensOn, WindowLaws, WorkedNumbers, area_of, base_of, opens_on, page_of, physical_of, shown_page};
+ghost use Rattle.std.specs.Fmt.{padded};
+ghost use Rattle.std.specs.Prelude.{◌≡◌, ◌<◌, Some};
+ghost use Rattle.registers.specs.Window.{OpensOn, WindowLaws, WorkedNumbers, area_name, area_of, base_of, opens_on, page_of, physical_of, shown_page};
+
+use std::fmt;
 
 #[derive(Clone, Copy, Debug, PartialEq, Eq)]
 pub struct Window {
@@ -15,6 +18,20 @@ pub enum Area {
     Common0,
     Bank,
     Common1,
+}
+
+impl fmt::Display for Area {
+    ghost output = { λ area. Some (area_name area) };
+
+    ghost styled_output = { λ area spec. Some (padded spec (area_name area)) };
+
+    fn fmt<W: fmt::Write>(&self, f: &mut fmt::Formatter<W>) -> fmt::Result {
+        f.pad(match self {
+            Area::Common0 => "common area 0",
+            Area::Bank => "bank area",
+            Area::Common1 => "common area 1",
+        })
+    }
 }
 
 impl Window {
@@ -72,16 +89,12 @@ impl Window {
     pub fn opens_on(self, page: u8) -> bool
         ensures { result ≡ opens_on self page }
     {
-        for logical in 0..16 {
-            if self.shown_page(logical) == page {
-                return true;
-            }
-        }
-        false
+        (0..16).any(|logical| self.shown_page(logical) == page)
     }
 }
 
 // Names the laws of the window, so that they are proved; it does nothing.
+#[tactic(auto, using(crate::proofs::Opened::laws))]
 pub fn window_laws()
     ensures { WindowLaws }
 {}
