@@ -1,5 +1,4 @@
-// Which line a step accepts, by its number in the order of acceptance: 0 for NMI, 1 to 3 for INT0 to INT2.
-ghost use Rattle.execution.specs.Lines as of;
+// Which line a step accepts.
 ghost use Rattle.processor.specs.Interrupt as interrupt;
 ghost use Rattle.processor.specs.Step as stepping;
 ghost use Rattle.std.specs.Prelude.{◌≡◌};
@@ -9,26 +8,26 @@ use panel::line::Line;
 use registers::registers::{InterruptMode, Registers};
 
 // The first of INT0, INT1 and INT2 that is asked for and that ITC enables.
-fn enabled<P: Panel>(panel: &P, cpu: &Registers) -> Option<u8>
-    ensures { result ≡ of.number (interrupt.enabled P.make (P.state panel.now) cpu.now) }
+fn enabled<P: Panel>(panel: &P, cpu: &Registers) -> Option<Line>
+    ensures { result ≡ interrupt.enabled P.make (P.state panel.now) cpu.now }
 {
     if cpu.itc % 2 == 1 && panel.asks(Line::Int0) {
-        Some(1)
+        Some(Line::Int0)
     } else if cpu.itc / 2 % 2 == 1 && panel.asks(Line::Int1) {
-        Some(2)
+        Some(Line::Int1)
     } else if cpu.itc / 4 % 2 == 1 && panel.asks(Line::Int2) {
-        Some(3)
+        Some(Line::Int2)
     } else {
         None
     }
 }
 
 // NMI is always accepted; the others need IEF1, and that the step before was not EI.
-pub(crate) fn accepted<P: Panel>(panel: &P, cpu: &Registers) -> Option<u8>
-    ensures { result ≡ of.number (interrupt.accepted P.make (P.state panel.now) cpu.now) }
+pub(crate) fn accepted<P: Panel>(panel: &P, cpu: &Registers) -> Option<Line>
+    ensures { result ≡ interrupt.accepted P.make (P.state panel.now) cpu.now }
 {
     if panel.asks(Line::Nmi) {
-        Some(0)
+        Some(Line::Nmi)
     } else if cpu.ief1 && !cpu.ei {
         enabled(panel, cpu)
     } else {
@@ -50,11 +49,11 @@ fn is_restart(byte: u8) -> bool
 }
 
 // INT0 is accepted in mode 0, and the panel's byte is no restart.
-pub(crate) fn no_restart<P: Panel>(panel: &P, mode: InterruptMode, line: Option<u8>) -> bool
-    ensures { result ≡ stepping.no_restart (of.line line) mode (P.make.int0_byte (P.state panel.now)) }
+pub(crate) fn no_restart<P: Panel>(panel: &P, mode: InterruptMode, line: Option<Line>) -> bool
+    ensures { result ≡ stepping.no_restart line mode (P.make.int0_byte (P.state panel.now)) }
 {
     match (line, mode) {
-        (Some(1), InterruptMode::Zero) => !is_restart(panel.int0_byte()),
+        (Some(Line::Int0), InterruptMode::Zero) => !is_restart(panel.int0_byte()),
         _ => false,
     }
 }

@@ -1,8 +1,9 @@
 // The instruction at PC, by the pages of the opcode map; what is on none of them traps.
-ghost use Rattle.std.specs.Prelude.{◌<◌};
+ghost use Rattle.execution.specs.Undefined as undefined;
 ghost use Rattle.machine.specs.Machines.{Below, Ends};
 ghost use Rattle.processor.specs.Instruction as of;
 
+use crate::undefined::Undefined;
 use calculations::bit::on_bit;
 use calculations::calculation::calculate;
 use calculations::rotation::rotate;
@@ -45,33 +46,30 @@ fn carry_out<const PREFIXED: bool, M: Memory, P: Panel>(
     }
 }
 
-// UFO says whether the third opcode byte is undefined, or the second. The address of that byte is pushed, a displacement not
-// counted.
-fn trap<M: Memory, P: Panel>(m: &mut Machine<M, P>, ufo: u8, address: u16)
-    requires below { Below 300 m.old }
-    requires ufo_bound { ufo < 2 }
-    ensures { Ends P.make M.memory P.state (of.trapped ufo address) m.old m.new }
+// UFO says whether the third opcode byte is undefined, or the second. The address of that byte is pushed.
+fn trap<M: Memory, P: Panel>(m: &mut Machine<M, P>, byte: Undefined, start: u16)
+    requires { Below 300 m.old }
+    ensures { Ends P.make M.memory P.state (of.trapped (undefined.ufo byte) (undefined.address byte start)) m.old m.new }
 {
-    m.cpu.itc = 128 + ufo * 64 + m.cpu.itc % 64;
-    m.push(address);
+    m.cpu.itc = 128 + byte.ufo() * 64 + m.cpu.itc % 64;
+    m.push(byte.address(start));
     m.cpu.pc = 0;
 }
 
-// What a second or a third opcode byte was decoded to.
+// What the last opcode byte of the instruction from `start` on was decoded to.
 fn carry_out_or_trap<M: Memory, P: Panel>(
     m: &mut Machine<M, P>,
     decoded: Option<Instruction>,
     displacement: u8,
-    ufo: u8,
-    address: u16,
+    byte: Undefined,
+    start: u16,
 )
-    requires below { Below 300 m.old }
-    requires ufo_bound { ufo < 2 }
-    ensures { Ends P.make M.memory P.state (of.or_trap decoded displacement ufo address) m.old m.new }
+    requires { Below 300 m.old }
+    ensures { Ends P.make M.memory P.state (of.or_trap decoded displacement (undefined.ufo byte) (undefined.address byte start)) m.old m.new }
 {
     match decoded {
         Some(instruction) => carry_out::<true, M, P>(m, instruction, displacement),
-        None => trap(m, ufo, address),
+        None => trap(m, byte, start),
     }
 }
 
@@ -83,7 +81,7 @@ fn third<M: Memory, P: Panel>(m: &mut Machine<M, P>, name: Index, start: u16)
     let displacement = m.operand();
     let byte = m.opcode();
     let decoded = indexed_cb_page::decode(name, byte);
-    carry_out_or_trap(m, decoded, displacement, 1, start.wrapping_add(2));
+    carry_out_or_trap(m, decoded, displacement, Undefined::Third, start);
 }
 
 fn behind_index<M: Memory, P: Panel>(m: &mut Machine<M, P>, second: Second, name: Index, start: u16)
@@ -93,7 +91,7 @@ fn behind_index<M: Memory, P: Panel>(m: &mut Machine<M, P>, second: Second, name
     match second {
         Second::Instruction(instruction) => carry_out::<true, M, P>(m, instruction, 0),
         Second::BitsPrefix => third(m, name, start),
-        Second::Undefined => trap(m, 0, start.wrapping_add(1)),
+        Second::Undefined => trap(m, Undefined::Second, start),
     }
 }
 
@@ -103,8 +101,8 @@ fn on_page<M: Memory, P: Panel>(m: &mut Machine<M, P>, page: Page, start: u16)
 {
     let byte = m.opcode();
     match page {
-        Page::Bits => carry_out_or_trap(m, cb_page::decode(byte), 0, 0, start.wrapping_add(1)),
-        Page::Extended => carry_out_or_trap(m, ed_page::decode(byte), 0, 0, start.wrapping_add(1)),
+        Page::Bits => carry_out_or_trap(m, cb_page::decode(byte), 0, Undefined::Second, start),
+        Page::Extended => carry_out_or_trap(m, ed_page::decode(byte), 0, Undefined::Second, start),
         Page::Indexed(name) => behind_index(m, indexed_page::decode(name, byte), name, start),
     }
 }

@@ -5,3 +5,4 @@ mod acceptance;
 mod instruction;
 mod service;
 pub mod step;
+mod undefined;

@@ -1,7 +1,7 @@
 // How an accepted line is served.
 ghost use Rattle.execution.specs.Lines as of;
 ghost use Rattle.machine.specs.Machines.{Below, Ends};
-ghost use Rattle.panel.specs.declared.line.Line.TheVariants as line;
+ghost use Rattle.panel.specs.declared.line.Line.TheVariants as lines;
 ghost use Rattle.processor.specs.Interrupt as interrupt;
 ghost use Rattle.registers.specs.Registers.{with_ief1, with_ief2};
 ghost use Rattle.std.specs.Prelude.{◌≡◌, false};
@@ -25,7 +25,7 @@ fn vectored<M: Memory, P: Panel>(m: &mut Machine<M, P>, at: u16)
 
 fn nmi<M: Memory, P: Panel>(m: &mut Machine<M, P>)
     requires { Below 200 m.old }
-    ensures { Ends P.make M.memory P.state (interrupt.served line.Nmi 0) m.old m.new }
+    ensures { Ends P.make M.memory P.state (interrupt.served lines.Nmi 0) m.old m.new }
 {
     m.cpu.ief2 = m.cpu.ief1;
     m.cpu.ief1 = false;
@@ -65,17 +65,6 @@ fn by_table<M: Memory, P: Panel>(m: &mut Machine<M, P>, name: Line, place: u16)
     vectored(m, at);
 }
 
-fn named(number: u8) -> Line
-    ensures { result ≡ of.numbered number }
-{
-    match number {
-        0 => Line::Nmi,
-        1 => Line::Int0,
-        2 => Line::Int1,
-        _ => Line::Int2,
-    }
-}
-
 fn mask(cpu: &mut Registers)
     ensures { cpu.new ≡ with_ief1 false (with_ief2 false cpu.old) }
 {
@@ -83,11 +72,11 @@ fn mask(cpu: &mut Registers)
     cpu.ief2 = false;
 }
 
-pub(crate) fn serve<M: Memory, P: Panel>(m: &mut Machine<M, P>, number: u8)
+pub(crate) fn serve<M: Memory, P: Panel>(m: &mut Machine<M, P>, line: Line)
     requires { Below 100 m.old }
-    ensures { Ends P.make M.memory P.state (interrupt.served (of.numbered number) (P.make.int0_byte (P.state m.old.panel))) m.old m.new }
+    ensures { Ends P.make M.memory P.state (interrupt.served line (P.make.int0_byte (P.state m.old.panel))) m.old m.new }
 {
-    match named(number) {
+    match line {
         Line::Nmi => nmi(m),
         Line::Int0 => {
             mask(&mut m.cpu);

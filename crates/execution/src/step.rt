@@ -1,6 +1,5 @@
 // A step: one interrupt, one instruction, or nothing but time.
 ghost use Rattle.cycles.specs.Footprint.{Few};
-ghost use Rattle.execution.specs.Lines as of;
 ghost use Rattle.execution.specs.Steps.{Secluded, model, seen, took_line};
 ghost use Rattle.machine.specs.Machines.{Below, Ends};
 ghost use Rattle.processor.specs.Interrupt as interrupt;
@@ -16,6 +15,7 @@ use machine::cost::Cost;
 use machine::state::Machine;
 use memory::Memory;
 use panel::Panel;
+use panel::line::Line;
 use registers::registers::Mode;
 
 // A sleeping card that accepts no line.
@@ -32,29 +32,29 @@ fn doze<M: Memory, P: Panel>(m: &mut Machine<M, P>)
 }
 
 // By the mode that the card is in and the line that it accepts.
-fn turn<M: Memory, P: Panel>(m: &mut Machine<M, P>, line: Option<u8>)
+fn turn<M: Memory, P: Panel>(m: &mut Machine<M, P>, line: Option<Line>)
     requires { Below 20 m.old }
-    ensures { Ends P.make M.memory P.state (λ p. interrupt.turned p.cpu.mode (of.line line) (interrupt.wakes P.make (P.state m.old.panel) p.cpu) (P.make.int0_byte (P.state m.old.panel)) p) m.old m.new }
+    ensures { Ends P.make M.memory P.state (λ p. interrupt.turned p.cpu.mode line (interrupt.wakes P.make (P.state m.old.panel) p.cpu) (P.make.int0_byte (P.state m.old.panel)) p) m.old m.new }
 {
     match (&mut m.cpu.mode, line) {
         (Mode::Running, None) => execute(m),
-        (Mode::Running, Some(number)) => serve(m, number),
+        (Mode::Running, Some(line)) => serve(m, line),
         (Mode::Halted, None) => m.internal(3),
-        (mode @ Mode::Halted, Some(number)) => {
+        (mode @ Mode::Halted, Some(line)) => {
             *mode = Mode::Running;
-            serve(m, number);
+            serve(m, line);
         }
         (Mode::Asleep, None) => doze(m),
-        (mode @ Mode::Asleep, Some(number)) => {
+        (mode @ Mode::Asleep, Some(line)) => {
             *mode = Mode::Running;
-            serve(m, number);
+            serve(m, line);
         }
     }
 }
 
 // A step that is not denied. Last, the panel is told its states.
-fn take<M: Memory, P: Panel>(m: &mut Machine<M, P>, line: Option<u8>) -> Cost
-    ensures { seen M.memory P.state (Ok result) m.new ≡ took_line P.make (of.line line) (model M.memory P.state m.old) }
+fn take<M: Memory, P: Panel>(m: &mut Machine<M, P>, line: Option<Line>) -> Cost
+    ensures { seen M.memory P.state (Ok result) m.new ≡ took_line P.make line (model M.memory P.state m.old) }
 {
     m.spent = Cost {
         cycles: 0,
