@@ -6,7 +6,7 @@ ghost use Rattle.machine.specs.Machines.{Below, Ends, Gives, got};
 ghost use Rattle.processor.specs.Arithmetic as of;
 ghost use Rattle.processor.specs.Arithmetic.{calculates};
 ghost use Rattle.processor.specs.Parts as parts;
-ghost use Rattle.registers.specs.Operands.{along, hl, value_of};
+ghost use Rattle.registers.specs.Operands.{along, value_of};
 ghost use Rattle.registers.specs.Registers.{with_f};
 ghost use Rattle.std.specs.Prelude.{◌≡◌, ℕ};
 
@@ -42,7 +42,7 @@ pub fn calculate<M: Memory, P: Panel>(m: &mut Machine<M, P>, form: Arithmetic)
             operate(&mut m.cpu, operation, byte);
         }
         Arithmetic::Memory(operation) => {
-            let byte = memory_byte(m);
+            let byte = m.read_at(Pair::Hl);
             operate(&mut m.cpu, operation, byte);
         }
         Arithmetic::Indexed(operation, from) => {
@@ -65,7 +65,7 @@ pub fn calculate<M: Memory, P: Panel>(m: &mut Machine<M, P>, form: Arithmetic)
         }
         Arithmetic::TestMemory => {
             m.internal(1);
-            let byte = memory_byte(m);
+            let byte = m.read_at(Pair::Hl);
             test(&mut m.cpu, byte);
         }
         Arithmetic::Complement => complement(m),
@@ -128,15 +128,6 @@ fn register_byte<M: Memory, P: Panel>(m: &mut Machine<M, P>, from: Register) -> 
 {
     m.internal(1);
     byte(&m.cpu, from)
-}
-
-// The byte at (HL).
-fn memory_byte<M: Memory, P: Panel>(m: &mut Machine<M, P>) -> u8
-    requires { Below 500 m.old }
-    ensures { Gives {n = 0} P.make M.memory P.state (λ p. tree.read (hl p.cpu) (λ b. got b p)) m.old result m.new }
-{
-    let at = Pair::Hl.get(&m.cpu);
-    m.read(at)
 }
 
 // The byte at (IX+d).

@@ -1,11 +1,11 @@
 // Rotates and shifts, behind their opcode bytes.
 ghost use Rattle.instructions.specs.declared.group.rotation.Rotation.TheVariants as form;
-ghost use Rattle.arithmetic.specs.declared.flags.Flags.{Flags};
-ghost use Rattle.calculations.specs.Rule.{Follows};
+ghost use Rattle.cycles.specs.Tree as tree;
 ghost use Rattle.machine.specs.Machines.{Below, Ends};
-ghost use Rattle.processor.specs.Rotate as of;
+ghost use Rattle.processor.specs.Parts.{finish};
 ghost use Rattle.processor.specs.Rotate.{rotates};
-ghost use Rattle.std.specs.Prelude.{ℕ};
+ghost use Rattle.registers.specs.Operands.{hl};
+ghost use Rattle.registers.specs.Registers.{with_a, with_f};
 
 use crate::byte_change::{at_hl, behind_index, in_register};
 use arithmetic::flags::Flags;
@@ -28,8 +28,16 @@ pub fn rotate<M: Memory, P: Panel>(m: &mut Machine<M, P>, form: Rotation, displa
         Rotation::Register(kind, register) => in_register(m, kind, register),
         Rotation::Memory(kind) => at_hl(m, kind),
         Rotation::Indexed(kind, name) => behind_index(m, kind, name, displacement),
-        Rotation::DigitsLeft => turn_digits(m, rld),
-        Rotation::DigitsRight => turn_digits(m, rrd),
+        Rotation::DigitsLeft => {
+            let byte = m.read_at(Pair::Hl);
+            let turned = rld(m.cpu.main.a, byte, m.cpu.main.f);
+            put_digits(m, turned);
+        }
+        Rotation::DigitsRight => {
+            let byte = m.read_at(Pair::Hl);
+            let turned = rrd(m.cpu.main.a, byte, m.cpu.main.f);
+            put_digits(m, turned);
+        }
     }
 }
 
@@ -42,18 +50,15 @@ fn accumulator<M: Memory, P: Panel>(m: &mut Machine<M, P>, kind: Rotate)
     take(&mut m.cpu, Register::A, outcome);
 }
 
-// RLD and RRD, by what they make of A, the byte at (HL) and F.
-fn turn_digits<T: FnOnce(u8, u8, Flags) -> ((u8, u8), Flags), M: Memory, P: Panel>(
-    m: &mut Machine<M, P>,
-    turn: T,
-)
-    requires below { Below 500 m.old }
-    requires callable { T.IsAlwaysCallable turn }
-    ensures { (rule : ℕ → ℕ → Flags → (ℕ × ℕ) × Flags) → Follows (T.post turn) rule → Ends P.make M.memory P.state (of.turn_digits rule) m.old m.new }
+// Three digits turned through A and the byte at (HL), for RLD and RRD: what A and the byte become, and F.
+fn put_digits<M: Memory, P: Panel>(m: &mut Machine<M, P>, turned: ((u8, u8), Flags))
+    requires { Below 500 m.old }
+    ensures { Ends {n = 1} P.make M.memory P.state
+        (λ p. tree.internal 4 (tree.write (hl p.cpu) turned.0.1 (finish (λ s. with_a turned.0.0 (with_f turned.1 s)) p)))
+        m.old m.new }
 {
+    let ((a, value), flags) = turned;
     let at = Pair::Hl.get(&m.cpu);
-    let old = m.read(at);
-    let ((a, value), flags) = turn(m.cpu.main.a, old, m.cpu.main.f);
     m.internal(4);
     m.write(at, value);
     m.cpu.main.a = a;

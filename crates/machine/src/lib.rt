@@ -4,6 +4,7 @@
 pub mod cost;
 mod cycle;
 pub mod outcome;
+mod pointed;
 mod port;
 pub mod state;
 mod word;

@@ -69,8 +69,7 @@ fn transfer_byte<M: Memory, P: Panel>(m: &mut Machine<M, P>, way: Direction)
     ensures { Ends P.make M.memory P.state (blocks (form.Transfer way)) m.old m.new }
 {
     let to = Pair::De.get(&m.cpu);
-    let from = Pair::Hl.get(&m.cpu);
-    let byte = m.read(from);
+    let byte = m.read_at(Pair::Hl);
     m.write(to, byte);
     moved(&mut m.cpu, way, byte);
 }
@@ -90,8 +89,7 @@ fn compare_byte<M: Memory, P: Panel>(m: &mut Machine<M, P>, way: Direction) -> u
     requires { Below 550 m.old }
     ensures { Gives {n = 0} P.make M.memory P.state (λ p. of.compares way p got) m.old result m.new }
 {
-    let from = Pair::Hl.get(&m.cpu);
-    let byte = m.read(from);
+    let byte = m.read_at(Pair::Hl);
     m.internal(3);
     matched(&mut m.cpu, way, byte);
     byte

@@ -1,6 +1,6 @@
 // Input and output, behind their opcode bytes.
 ghost use Rattle.instructions.specs.declared.group.port.Port.TheVariants as form;
-ghost use Rattle.machine.specs.Machines.{Below, Ends, Gives, got};
+ghost use Rattle.machine.specs.Machines.{Below, Ends};
 ghost use Rattle.arithmetic.specs.Block as rule;
 ghost use Rattle.arithmetic.specs.Port as flags;
 ghost use Rattle.cycles.specs.Tree as tree;
@@ -41,9 +41,15 @@ pub fn on_port<M: Memory, P: Panel>(m: &mut Machine<M, P>, form: Port)
         Port::OutputZero(from) => output_zero(m, from),
         Port::Test => test(m),
         Port::InputBlock(way) => input_block(m, way),
-        Port::InputRepeated(way) => input_repeated(m, way),
+        Port::InputRepeated(way) => {
+            input_block(m, way);
+            again(m, m.cpu.main.b != 0);
+        }
         Port::OutputBlock(way) => output_block(m, way),
-        Port::OutputRepeated(way) => output_repeated(m, way),
+        Port::OutputRepeated(way) => {
+            output_block(m, way);
+            again(m, m.cpu.main.b != 0);
+        }
         Port::OutputZeroBlock(way) => output_zero_block(m, way),
         Port::OutputZeroRepeated(way) => output_zero_repeated(m, way),
     }
@@ -168,24 +174,6 @@ fn input_block<M: Memory, P: Panel>(m: &mut Machine<M, P>, way: Direction)
     counted(&mut m.cpu, way, outcome);
 }
 
-// INIR and INDR
-fn input_repeated<M: Memory, P: Panel>(m: &mut Machine<M, P>, way: Direction)
-    requires { Below 500 m.old }
-    ensures { Ends P.make M.memory P.state (ports (form.InputRepeated way)) m.old m.new }
-{
-    input_block(m, way);
-    again(m, m.cpu.main.b != 0);
-}
-
-// The byte at (HL).
-fn from_hl<M: Memory, P: Panel>(m: &mut Machine<M, P>) -> u8
-    requires { Below 600 m.old }
-    ensures { Gives {n = 0} P.make M.memory P.state (λ p. tree.read (hl p.cpu) (λ b. got b p)) m.old result m.new }
-{
-    let at = Pair::Hl.get(&m.cpu);
-    m.read(at)
-}
-
 // A byte goes to port (BC), and is counted.
 fn send<M: Memory, P: Panel>(m: &mut Machine<M, P>, way: Direction, byte: u8)
     requires { Below 600 m.old }
@@ -202,17 +190,8 @@ fn output_block<M: Memory, P: Panel>(m: &mut Machine<M, P>, way: Direction)
     requires { Below 550 m.old }
     ensures { Ends P.make M.memory P.state (ports (form.OutputBlock way)) m.old m.new }
 {
-    let byte = from_hl(m);
+    let byte = m.read_at(Pair::Hl);
     send(m, way, byte);
-}
-
-// OTIR and OTDR
-fn output_repeated<M: Memory, P: Panel>(m: &mut Machine<M, P>, way: Direction)
-    requires { Below 500 m.old }
-    ensures { Ends P.make M.memory P.state (ports (form.OutputRepeated way)) m.old m.new }
-{
-    output_block(m, way);
-    again(m, m.cpu.main.b != 0);
 }
 
 // A byte from (HL) to port C with upper half 0, both going on.
@@ -221,7 +200,7 @@ fn output_next<M: Memory, P: Panel>(m: &mut Machine<M, P>, way: Direction)
     ensures { Ends P.make M.memory P.state (λ p. of.outputs_zero way p tree.done) m.old m.new }
 {
     m.internal(1);
-    let byte = from_hl(m);
+    let byte = m.read_at(Pair::Hl);
     m.output(u16::from(m.cpu.main.c), byte);
     let outcome = block::port_zero(m.cpu.main.b, byte, m.cpu.main.f);
     counted(&mut m.cpu, way, outcome);
