@@ -9,7 +9,6 @@ pub struct Machine<M, P> {
     pub window: Window,
     pub memory: M,
     pub panel: P,
-    // Of the step under way. Each `requires` bounds it by Below n: the n falls from caller to callee, so that no invariant of the
-    // type can hold it.
+    // Of the step under way. Each `requires` bounds it by Below n, which falls from caller to callee: no one invariant holds it.
     pub spent: Cost,
 }
