@@ -68,8 +68,14 @@ pub fn calculate<M: Memory, P: Panel>(m: &mut Machine<M, P>, form: Arithmetic)
             let byte = m.read_at(Pair::Hl);
             test(&mut m.cpu, byte);
         }
-        Arithmetic::Complement => complement(m),
-        Arithmetic::Negate => negate(m),
+        Arithmetic::Complement => {
+            let outcome = logic::complement(m.cpu.main.a, m.cpu.main.f);
+            take(&mut m.cpu, Register::A, outcome);
+        }
+        Arithmetic::Negate => {
+            let outcome = add::negate(m.cpu.main.a, m.cpu.main.f);
+            take(&mut m.cpu, Register::A, outcome);
+        }
         Arithmetic::Multiply(name) => multiply_pair(m, name),
         Arithmetic::AddPair(from) => {
             let with = from.get(&m.cpu);
@@ -138,24 +144,6 @@ fn indexed_byte<M: Memory, P: Panel>(m: &mut Machine<M, P>, from: Index) -> u8
     let at = m.indexed(from);
     m.internal(2);
     m.read(at)
-}
-
-// CPL
-fn complement<M: Memory, P: Panel>(m: &mut Machine<M, P>)
-    requires { Below 500 m.old }
-    ensures { Ends P.make M.memory P.state (calculates form.Complement) m.old m.new }
-{
-    let outcome = logic::complement(m.cpu.main.a, m.cpu.main.f);
-    take(&mut m.cpu, Register::A, outcome);
-}
-
-// NEG
-fn negate<M: Memory, P: Panel>(m: &mut Machine<M, P>)
-    requires { Below 500 m.old }
-    ensures { Ends P.make M.memory P.state (calculates form.Negate) m.old m.new }
-{
-    let outcome = add::negate(m.cpu.main.a, m.cpu.main.f);
-    take(&mut m.cpu, Register::A, outcome);
 }
 
 // MLT ww
