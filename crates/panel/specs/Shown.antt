@@ -1,9 +1,10 @@
 -- The state of a chain panel's value, its table as a list, and its making. Assumes nothing.
 use Rattle.std.specs.Prelude.{◌-◌, cond, ◌&&◌, List, length, Ok, Err, vec_items, Result, nat_le}
+use Rattle.std.specs.Global.{Vec}
 use Rattle.denial.specs.Denials.{Told, numbered, told}
 use Rattle.panel.specs.declared.record.Record.{Record}
 use Rattle.panel.specs.declared.chain.Chain.{Chain}
-use Rattle.panel.specs.declared.unmade.Unmade.{Unmade}
+use Rattle.denial.specs.declared.unmade.Unmade.{Unmade}
 use Rattle.panel.specs.Chains.{State, new_chain}
 use Rattle.panel.specs.Links.{chains_in}
 
@@ -19,6 +20,6 @@ abbrev pub making : List Record → Result (State × List Record) (Told × List 
 making table = cond (nat_le 2 (length table) && nat_le (length table) 4096) (Ok (new_chain (length table - 1), table)) (Err (numbered 4, table))
 
 -- What it did answer, seen so.
-abbrev pub made : Result Chain Unmade → Result (State × List Record) (Told × List Record)
+abbrev pub made : Result Chain (Unmade (Vec Record)) → Result (State × List Record) (Told × List Record)
 made (Ok p) = Ok (chain_state p, table_of p)
-made (Err u) = Err (told u.denial, vec_items u.table)
+made (Err u) = Err (told u.denial, vec_items u.given)

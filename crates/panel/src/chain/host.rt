@@ -6,19 +6,18 @@ ghost use Rattle.panel.specs.Shown.{chain_state, made, making, table_of};
 
 use crate::chain::Chain;
 use crate::record::Record;
-use crate::unmade::Unmade;
 use denial::Denial;
+use denial::unmade::Unmade;
 
 impl Chain {
     // A new panel over a table of 2 to 4,096 records, or 4 with the table handed back.
-    pub fn new(table: Vec<Record>) -> Result<Chain, Unmade>
+    pub fn new(table: Vec<Record>) -> Result<Chain, Unmade<Vec<Record>>>
         ensures { made result ≡ making table.items }
     {
-        let records = table.len();
-        if records < 2 || records > 4096 {
+        if !(2..=4096).contains(&table.len()) {
             return Err(Unmade {
                 denial: Denial::TableLength,
-                table,
+                given: table,
             });
         }
         Ok(Chain {
