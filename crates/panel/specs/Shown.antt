@@ -6,14 +6,14 @@ use Rattle.panel.specs.declared.record.Record.{Record}
 use Rattle.panel.specs.declared.chain.Chain.{Chain}
 use Rattle.denial.specs.declared.unmade.Unmade.{Unmade}
 use Rattle.panel.specs.Chains.{State, new_chain}
-use Rattle.panel.specs.Links.{chains_in}
+use Rattle.panel.specs.Links.{chains_in, firsts_of}
 
 -- The table, record 0 and the unused records too.
 abbrev pub table_of : Chain → List Record
 table_of p = vec_items p.table
 
 abbrev pub chain_state : Chain → State
-chain_state p = record { chain = chains_in (table_of p) p.firsts; usable = length (table_of p) - 1; key = p.key; latch = p.latch }
+chain_state p = record { chain = chains_in (table_of p) (firsts_of p.spans); usable = length (table_of p) - 1; key = p.key; latch = p.latch }
 
 -- What making is to answer for a table of 2 to 4,096 records: a new panel over it. For any other, 4. The table is as it was.
 abbrev pub making : List Record → Result (State × List Record) (Told × List Record)

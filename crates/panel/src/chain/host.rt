@@ -5,6 +5,7 @@ ghost use Rattle.panel.specs.Links.{row};
 ghost use Rattle.panel.specs.Shown.{chain_state, made, making, table_of};
 
 use crate::chain::Chain;
+use crate::chain::span::Span;
 use crate::record::Record;
 use denial::Denial;
 use denial::unmade::Unmade;
@@ -22,8 +23,7 @@ impl Chain {
         }
         Ok(Chain {
             table,
-            firsts: [0; 3],
-            lasts: [0; 3],
+            spans: [Span::EMPTY; 3],
             used: 0,
             key: 0,
             latch: false,
@@ -37,8 +37,7 @@ impl Chain {
     {
         let Chain {
             table,
-            firsts: _,
-            lasts: _,
+            spans: _,
             used: _,
             key: _,
             latch: _,
@@ -65,8 +64,7 @@ impl Chain {
         ensures after { chain_state self.new ≡ cleared (chain_state self.old) }
         ensures table { table_of self.new ≡ table_of self.old }
     {
-        self.firsts = [0; 3];
-        self.lasts = [0; 3];
+        self.spans = [Span::EMPTY; 3];
         self.used = 0;
     }
 }

@@ -15,7 +15,7 @@ impl Chain {
     pub fn first(&self, track: Track) -> u16
         ensures { result ≡ first_number ((chain_state self.now).chain (track_number track)) }
     {
-        self.firsts[track.number()]
+        self.spans[track.number()].first
     }
 
     // A used record by its number.
