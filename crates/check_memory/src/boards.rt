@@ -79,29 +79,25 @@ fn the_longest_bank_is_made_and_one_byte_more_is_denied(rt: HostRuntime) -> Resu
     let bytes = vec![in rt.alloc(); 5u8; 524_288]?;
     assert_eq!(rt; BoardLength::of_bank(&bytes)?.bytes(), 524_288);
     let bytes = vec![in rt.alloc(); 5u8; 524_289]?;
-    match BoardLength::of_bank(&bytes) {
-        Ok(_) => Err(Fail::new("a byte too many was accepted")),
-        Err(denial) => {
-            assert_eq!(rt;
-                (denial.number(), denial.layer()),
-                (1, denial::Layer::Making)
-            );
-            Ok(())
-        },
-    }
+    let Err(denial) = BoardLength::of_bank(&bytes) else {
+        return Err(Fail::new("a byte too many was accepted"));
+    };
+    assert_eq!(rt;
+        (denial.number(), denial.layer()),
+        (1, denial::Layer::Making)
+    );
+    Ok(())
 }
 
 #[test]
 fn a_board_counts_both_parts(rt: HostRuntime) -> Result<(), Fail> {
     let rom = vec![in rt.alloc(); 0u8; 524_288]?;
     assert_eq!(rt; BoardLength::of_rom_ram(&rom, &[])?.bytes(), 524_288);
-    match BoardLength::of_rom_ram(&rom, &[0]) {
-        Ok(_) => Err(Fail::new("a byte too many was accepted")),
-        Err(denial) => {
-            assert_eq!(rt; denial.number(), 1);
-            Ok(())
-        },
-    }
+    let Err(denial) = BoardLength::of_rom_ram(&rom, &[0]) else {
+        return Err(Fail::new("a byte too many was accepted"));
+    };
+    assert_eq!(rt; denial.number(), 1);
+    Ok(())
 }
 
 #[test]

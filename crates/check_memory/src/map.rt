@@ -60,11 +60,9 @@ fn arguments_are_refused_by_name(rt: HostRuntime) -> Result<(), Fail> {
 fn a_long_image_is_refused_before_the_arguments_are_read(rt: HostRuntime) -> Result<(), Fail> {
     let heap = rt.alloc();
     let mut image = vec![in heap; 0u8; 524_289]?;
-    match listing(heap, &mut image, &arguments(heap, &["84"])?) {
-        Ok(_) => Err(Fail::new("there is a listing")),
-        Err(reason) => {
-            assert_eq!(rt; reason.to_string(heap)?.as_str(), "too long");
-            Ok(())
-        },
-    }
+    let Err(reason) = listing(heap, &mut image, &arguments(heap, &["84"])?) else {
+        return Err(Fail::new("there is a listing"));
+    };
+    assert_eq!(rt; reason.to_string(heap)?.as_str(), "too long");
+    Ok(())
 }

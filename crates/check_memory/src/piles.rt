@@ -7,7 +7,6 @@ use memory::rom_ram::RomRam;
 use plugs::entry::{Page, PatchEntry};
 use plugs::patch::Patch;
 use plugs::protect::Protect;
-use plugs::unmade::Unmade;
 use std::process::Abort;
 use std::test::Fail;
 
@@ -24,16 +23,13 @@ const PATCHES: [PatchEntry; 2] = [
     },
 ];
 
-fn denied<M: Drop>(_unmade: Unmade<M>) -> Fail {
-    Fail::new("the plug was denied")
+fn denied<T>() -> Result<T, Fail> {
+    Err(Fail::new("the plug was denied"))
 }
 
 // Over a memory of two pages and more that holds zeros and takes writes from address 2 on: page 1 is protected, and the
 // addresses 0 and 4097 are patched.
-fn behaves<M: Memory>(rt: &impl Abort, mut pile: M) -> Result<(), Fail>
-where
-    M: Drop,
-{
+fn behaves<M: Memory + Drop>(rt: &impl Abort, mut pile: M) -> Result<(), Fail> {
     for at in [0, 2, 4095, 4096, 4097, 8191, 8192] {
         assert_eq!(rt; pile.write(at, 9), Ok(()));
     }
@@ -58,13 +54,13 @@ fn a_patch_over_a_protected_bank(rt: HostRuntime) -> Result<(), Fail> {
     let mut bytes = vec![in rt.alloc(); 0u8; 12_288]?;
     let size = BoardLength::of_bank(&bytes)?;
     let bank = Bank::new(&mut bytes, size);
-    match Protect::new(bank, &PAGES) {
-        Ok(below) => match Patch::new(below, &PATCHES) {
-            Ok(pile) => behaves(&rt, pile),
-            Err(unmade) => Err(denied(unmade)),
-        },
-        Err(unmade) => Err(denied(unmade)),
-    }
+    let Ok(below) = Protect::new(bank, &PAGES) else {
+        return denied();
+    };
+    let Ok(pile) = Patch::new(below, &PATCHES) else {
+        return denied();
+    };
+    behaves(&rt, pile)
 }
 
 #[test]
@@ -73,13 +69,13 @@ fn a_protect_plug_over_a_patched_board(rt: HostRuntime) -> Result<(), Fail> {
     let mut ram = vec![in rt.alloc(); 0u8; 12_288]?;
     let size = BoardLength::of_rom_ram(&rom, &ram)?;
     let board = RomRam::new(&rom, &mut ram, size);
-    match Patch::new(board, &PATCHES) {
-        Ok(below) => match Protect::new(below, &PAGES) {
-            Ok(pile) => behaves(&rt, pile),
-            Err(unmade) => Err(denied(unmade)),
-        },
-        Err(unmade) => Err(denied(unmade)),
-    }
+    let Ok(below) = Patch::new(board, &PATCHES) else {
+        return denied();
+    };
+    let Ok(pile) = Protect::new(below, &PAGES) else {
+        return denied();
+    };
+    behaves(&rt, pile)
 }
 
 #[test]
@@ -87,34 +83,28 @@ fn of_two_patch_plugs_the_upper_one_is_seen(rt: HostRuntime) -> Result<(), Fail>
     let mut bytes = [0; 8];
     let size = BoardLength::of_bank(&bytes)?;
     let bank = Bank::new(&mut bytes, size);
-    match Patch::new(
-        bank,
-        &[
-            PatchEntry {
-                address: 0,
-                byte: 1,
-            },
-            PatchEntry {
-                address: 1,
-                byte: 2,
-            },
-        ],
-    ) {
-        Ok(below) => match Patch::new(
-            below,
-            &[PatchEntry {
-                address: 1,
-                byte: 3,
-            }],
-        ) {
-            Ok(pile) => {
-                assert_eq!(rt; pile.read(0), Ok(1));
-                assert_eq!(rt; pile.read(1), Ok(3));
-                assert_eq!(rt; pile.into_below().read(1), Ok(2));
-                Ok(())
-            }
-            Err(unmade) => Err(denied(unmade)),
+    let lower = [
+        PatchEntry {
+            address: 0,
+            byte: 1,
         },
-        Err(unmade) => Err(denied(unmade)),
-    }
+        PatchEntry {
+            address: 1,
+            byte: 2,
+        },
+    ];
+    let upper = [PatchEntry {
+        address: 1,
+        byte: 3,
+    }];
+    let Ok(below) = Patch::new(bank, &lower) else {
+        return denied();
+    };
+    let Ok(pile) = Patch::new(below, &upper) else {
+        return denied();
+    };
+    assert_eq!(rt; pile.read(0), Ok(1));
+    assert_eq!(rt; pile.read(1), Ok(3));
+    assert_eq!(rt; pile.into_below().read(1), Ok(2));
+    Ok(())
 }

@@ -1,5 +1,6 @@
 // Making plugs: duplicates, the 33rd entry, entries out of range.
 use denial::Denial;
+use denial::unmade::Unmade;
 use memory::Memory;
 use memory::bank::Bank;
 use memory::length::BoardLength;
@@ -10,43 +11,42 @@ use std::alloc::{AllocError, Global};
 use std::process::Abort;
 use std::test::Fail;
 
-// Why a protect plug with these pages is denied, if it is. The memory below comes back as it was.
+// What the memory below holds.
+const BELOW: [u8; 2] = [0x55, 0xAA];
+
+// Why a making was denied, if it was. The memory below comes back as it was.
+fn denial_of<P: Drop, M: Memory + Drop>(
+    rt: &impl Abort,
+    made: Result<P, Unmade<M>>,
+) -> Option<Denial> {
+    let Err(unmade) = made else {
+        return None;
+    };
+    assert_eq!(rt; unmade.given.read(1), Ok(0xAA));
+    Some(unmade.denial)
+}
+
+// Not one function over both kinds of entry: for a kind that is not known, the size of a plug over a bank has no bound.
 fn protect_denied(rt: &impl Abort, pages: &[Page]) -> Result<Option<Denial>, Fail> {
-    let mut bytes = [0x55, 0xAA];
+    let mut bytes = BELOW;
     let size = BoardLength::of_bank(&bytes)?;
     let below = Bank::new(&mut bytes, size);
-    match Protect::new(below, pages) {
-        Ok(_) => Ok(None),
-        Err(unmade) => {
-            assert_eq!(rt; unmade.below.read(1), Ok(0xAA));
-            Ok(Some(unmade.denial))
-        }
-    }
+    Ok(denial_of(rt, Protect::new(below, pages)))
 }
 
 fn patch_denied(rt: &impl Abort, entries: &[PatchEntry]) -> Result<Option<Denial>, Fail> {
-    let mut bytes = [0x55, 0xAA];
+    let mut bytes = BELOW;
     let size = BoardLength::of_bank(&bytes)?;
     let below = Bank::new(&mut bytes, size);
-    match Patch::new(below, entries) {
-        Ok(_) => Ok(None),
-        Err(unmade) => {
-            assert_eq!(rt; unmade.below.read(1), Ok(0xAA));
-            Ok(Some(unmade.denial))
-        }
-    }
+    Ok(denial_of(rt, Patch::new(below, entries)))
 }
 
 // So many different pages, from 0 on, and then some more by number.
 fn pages(heap: Global, different: u8, more: &[u8]) -> Result<Vec<Page>, AllocError> {
-    let mut list = Vec::new(heap);
-    for number in 0..different {
-        list.push(Page { number })?;
-    }
-    for number in more {
-        list.push(Page { number: *number })?;
-    }
-    Ok(list)
+    (0..different)
+        .chain(more.iter().copied())
+        .map(|number| Page { number })
+        .collect(heap)
 }
 
 #[test]
@@ -122,14 +122,12 @@ fn entries_at_the_ends_of_their_range(rt: HostRuntime) -> Result<(), Fail> {
 
 // So many patches of different addresses, from 100 on.
 fn patches(heap: Global, different: u32) -> Result<Vec<PatchEntry>, AllocError> {
-    let mut list = Vec::new(heap);
-    for i in 0..different {
-        list.push(PatchEntry {
+    (0..different)
+        .map(|i| PatchEntry {
             address: 100u32.wrapping_add(i),
             byte: 2,
-        })?;
-    }
-    Ok(list)
+        })
+        .collect(heap)
 }
 
 #[test]
@@ -171,13 +169,11 @@ fn of_two_patches_of_one_address_the_later_counts(rt: HostRuntime) -> Result<(),
             byte: 9,
         },
     ];
-    match Patch::new(below, &entries) {
-        Ok(patch) => {
-            assert_eq!(rt; patch.read(2), Ok(9));
-            assert_eq!(rt; patch.read(3), Ok(5));
-            assert_eq!(rt; patch.read(1), Ok(0));
-            Ok(())
-        }
-        Err(_) => Err(Fail::new("the plug was denied")),
-    }
+    let Ok(patch) = Patch::new(below, &entries) else {
+        return Err(Fail::new("the plug was denied"));
+    };
+    assert_eq!(rt; patch.read(2), Ok(9));
+    assert_eq!(rt; patch.read(3), Ok(5));
+    assert_eq!(rt; patch.read(1), Ok(0));
+    Ok(())
 }

@@ -31,10 +31,7 @@ fn naming(port: u16, byte: u8, next: u16) -> Record {
 // A panel over a table of so many records of garbage.
 fn panel_of(heap: Global, records: usize) -> Result<Chain, Fail> {
     let table = vec![in heap; GARBAGE; records]?;
-    match Chain::new(table) {
-        Ok(panel) => Ok(panel),
-        Err(_) => Err(Fail::new("the table is denied")),
-    }
+    Chain::new(table).map_err(|_| Fail::new("the table is denied"))
 }
 
 fn write_all(panel: &mut Chain, writes: &[(u16, u8)]) -> Result<(), Fail> {
@@ -187,8 +184,8 @@ fn tables_of_other_lengths(rt: HostRuntime) -> Result<(), Fail> {
             return Err(Fail::new("the table is taken"));
         };
         assert_eq!(rt; unmade.denial.number(), 4);
-        assert_eq!(rt; unmade.table.len(), records);
-        for record in unmade.table.iter() {
+        assert_eq!(rt; unmade.given.len(), records);
+        for record in unmade.given.iter() {
             assert_eq!(rt; *record, GARBAGE);
         }
     }

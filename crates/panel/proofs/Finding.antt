@@ -5,13 +5,13 @@ use Rattle.std.proofs.lemmas.Bool.Decides.{nat_tests}
 use Rattle.panel.specs.declared.record.Record.{Record}
 use Rattle.panel.specs.declared.chain.Chain.{Chain}
 use Rattle.panel.specs.Chains.{Entry, sum_below, first_number, on_chain, on_any, or_else, record_of}
-use Rattle.panel.specs.Links.{row, count_of}
+use Rattle.panel.specs.Links.{row, count_of, firsts_of}
 use Rattle.panel.specs.Shown.{chain_state, table_of}
 use Rattle.panel.specs.Walking.{listed, walked}
 use Rattle.panel.proofs.Following.{Leads, apart_from, leads_first}
 use Rattle.panel.proofs.Tables.{few, in_use, well}
 use Rattle.panel.proofs.Walks.{walked_is}
-use Rattle.panel.proofs.Joining.{short_here, null_here}
+use Rattle.panel.proofs.Joining.{short_here, null_here, three_here}
 
 absent : (n : ℕ) (es : List Entry) → count_of n es ≡ 0 → on_chain es n ≡ None
 absent n [] z = refl
@@ -42,16 +42,16 @@ module _ (t : List Record) (firsts : ℕ → ℕ) (c : ℕ → List Entry) (lead
       (cases_lt 0 (sum_below k (λ j. count_of n (c j))))
 
 module _ (p : Chain) where
-  leads : (k : ℕ) → Leads (table_of p) (get_or p.firsts k 0) ((chain_state p).chain k)
-  leads = well (table_of p) p.firsts (short_here p) (null_here p)
+  leads : (k : ℕ) → Leads (table_of p) (get_or (firsts_of p.spans) k 0) ((chain_state p).chain k)
+  leads = well (table_of p) (firsts_of p.spans) (short_here p) (null_here p)
 
   -- a record on a chain is not record 0
   positive : (i k : ℕ) → 0 < count_of i ((chain_state p).chain k) → 0 < i
   positive zero k on = absurd (omega (arith, null_here p k))
   positive (suc i) k on = omega arith
 
-  pub first_is : (k : ℕ) → get_or p.firsts k 0 ≡ first_number ((chain_state p).chain k)
-  first_is k = leads_first (table_of p) (get_or p.firsts k 0) ((chain_state p).chain k) (leads k)
+  pub first_is : (k : ℕ) → get_or (firsts_of p.spans) k 0 ≡ first_number ((chain_state p).chain k)
+  first_is k = leads_first (table_of p) (get_or (firsts_of p.spans) k 0) ((chain_state p).chain k) (leads k)
 
   pub record_none : (n : ℕ) → (n ≡ 0) ⊎ (p.used < n) → None ≡ record_of (chain_state p) n
   record_none n h =
@@ -62,7 +62,7 @@ module _ (p : Chain) where
   record_some n low high =
       let z : cond {A = ℕ} (ltb 0 n && leb n p.used) 1 0 ≡ 1 = grind (arith, nat_tests) in
       let o = p.once n in
-      sym (present_below (table_of p) (λ k. get_or p.firsts k 0) (chain_state p).chain leads n 3 (omega arith))
+      sym (present_below (table_of p) (λ k. get_or (firsts_of p.spans) k 0) (chain_state p).chain leads n 3 (omega arith))
 
   -- what the host finds under a number is what stands in the table
   pub record_found : (n : ℕ) → is_some (record_of (chain_state p) n) ≡ true → record_of (chain_state p) n ≡ Some (row (table_of p) n)
@@ -79,9 +79,9 @@ module _ (p : Chain) where
   -- a walk of as many steps as records are used meets a whole chain
   pub walk_is : (k n : ℕ) → n ≡ first_number ((chain_state p).chain k) → walked (chain_state p) p.used n ≡ listed ((chain_state p).chain k)
   walk_is k n first =
-      let firsts = p.firsts in
-      let used_here = in_use (table_of p) firsts p.used p.three.0 p.room p.total p.once in
+      let firsts = firsts_of p.spans in
+      let used_here = in_use (table_of p) firsts p.used (three_here p).0 p.room p.total p.once in
       ap (walked (chain_state p) p.used) (first ∙ sym (first_is k))
       ∙ walked_is (chain_state p) (table_of p) (sym (record_none 0 (inl refl))) p.used (get_or firsts k 0) ((chain_state p).chain k) (leads k)
       (λ i on. sym (record_some i (positive i k on) (used_here i k on)))
-      (few (table_of p) firsts p.used p.three.0 p.room p.total p.once k)
+      (few (table_of p) firsts p.used (three_here p).0 p.room p.total p.once k)

@@ -2,10 +2,11 @@
 use Rattle.std.proofs.Common.{◌≡◌, ℕ, zero, suc, ◌+◌, ◌<◌, ◌≤◌, cond, ◌&&◌, eqb, ltb, leb, ◌≢◌, ◌⊎◌, List, [], ◌∷◌, ◌++◌, length, get_or, set, sym, refl, ap, ◌∙◌, subst, inl, inr, arith}
 use Rattle.std.proofs.lemmas.Bool.{cond-false, cond-true, cases_eq, eq-eqb, ne_eqb}
 use Rattle.std.proofs.lemmas.Bool.Decides.{nat_tests}
-use Rattle.std.proofs.lemmas.List.{get_or-set_same, get_or-set_other, get_or_past, length-set, length_push}
+use Rattle.std.proofs.lemmas.List.{get_or-set_same, get_or-set_other, get_or_past, length-map, length-set, length_push}
 use Rattle.panel.specs.declared.record.Record.{Record}
+use Rattle.panel.specs.declared.chain.span.Span.{Span}
 use Rattle.panel.specs.Chains.{Entry, sum_below, used, appended, last_number}
-use Rattle.panel.specs.Links.{blank, row, entry_at, followed, chains_in, count_of, Once, Ends, with_next}
+use Rattle.panel.specs.Links.{blank, row, entry_at, followed, chains_in, count_of, Once, Ends, firsts_of, lasts_of, with_next}
 use Rattle.panel.proofs.Sums.{sum_change, part, parts}
 use Rattle.panel.proofs.Following.{Leads, ended, followed_is, leads_still, last_there, no_last, count_push, last_push, extend}
 
@@ -137,9 +138,9 @@ ends_appended c ls k n x h e o = λ j. at j (cases_eq j k)
         (get_or-set_same ls k n 0 h ∙ sym (ap (last_number 0) (appended_here c k x) ∙ last_push 0 (c k) x ∙ e))
     at j (inr ne) = get_or-set_other ls k j n 0 ne ∙ o j ∙ sym (ap (last_number 0) (appended_there c k x j ne))
 
--- What a chain panel's ghost fields say.
-abbrev pub Sound : List Record → List ℕ → List ℕ → ℕ → Type 0
-Sound t fs ls u = record {
+-- What holds of a table, its chains' first and last numbers, and how many records are used.
+abbrev pub Listed : List Record → List ℕ → List ℕ → ℕ → Type 0
+Listed t fs ls u = record {
   three : (length fs ≡ 3) × (length ls ≡ 3);
   size : (2 ≤ length t) × (length t ≤ 4096);
   room : u < length t;
@@ -149,7 +150,7 @@ Sound t fs ls u = record {
 }
 
 -- they hold if the chains are c, and c is in order
-pub sound_by : (c : ℕ → List Entry) (t : List Record) (fs ls : List ℕ) (u : ℕ) → chains_in t fs ≡ c → (length fs ≡ 3) × (length ls ≡ 3) → (2 ≤ length t) × (length t ≤ 4096) → u < length t → used c ≡ u → Ends c ls → Once c u → Sound t fs ls u
+pub sound_by : (c : ℕ → List Entry) (t : List Record) (fs ls : List ℕ) (u : ℕ) → chains_in t fs ≡ c → (length fs ≡ 3) × (length ls ≡ 3) → (2 ≤ length t) × (length t ≤ 4096) → u < length t → used c ≡ u → Ends c ls → Once c u → Listed t fs ls u
 sound_by c t fs ls u e three size room total ends once =
     record {
       three = three;
@@ -160,14 +161,40 @@ sound_by c t fs ls u e three size room total ends once =
       once = subst (λ d. Once d u) (sym e) once;
     }
 
-pub sound_appended : (c : ℕ → List Entry) (t : List Record) (fs ls : List ℕ) (k u : ℕ) (x : Entry) → k < 3 → x.number ≡ u + 1 → chains_in t fs ≡ appended c k x → (length fs ≡ 3) × (length ls ≡ 3) → (2 ≤ length t) × (length t ≤ 4096) → u + 1 < length t → used c ≡ u → Ends c ls → Once c u → Sound t fs (set ls k (u + 1)) (u + 1)
+pub sound_appended : (c : ℕ → List Entry) (t : List Record) (fs ls : List ℕ) (k u : ℕ) (x : Entry) → k < 3 → x.number ≡ u + 1 → chains_in t fs ≡ appended c k x → (length fs ≡ 3) × (length ls ≡ 3) → (2 ≤ length t) × (length t ≤ 4096) → u + 1 < length t → used c ≡ u → Ends c ls → Once c u → Listed t fs (set ls k (u + 1)) (u + 1)
 sound_appended c t fs ls k u x h e is three size room total ends once =
     sound_by (appended c k x) t fs (set ls k (u + 1)) (u + 1) is (three.0, length-set ls k (u + 1) ∙ three.1) size room
     (used_appended c k x h ∙ ap (λ n. n + 1) total)
     (ends_appended c ls k (u + 1) x (omega arith) e ends)
     (once_appended c k u x h e once)
 
+-- What a chain panel's ghost fields say.
+abbrev pub Sound : List Record → List Span → ℕ → Type 0
+Sound t ss u = record {
+  three : length ss ≡ 3;
+  size : (2 ≤ length t) × (length t ≤ 4096);
+  room : u < length t;
+  total : used (chains_in t (firsts_of ss)) ≡ u;
+  ends : Ends (chains_in t (firsts_of ss)) (lasts_of ss);
+  once : Once (chains_in t (firsts_of ss)) u;
+}
+
+-- they hold if those numbers are the spans'
+pub sound_spans : (t : List Record) (ss : List Span) (fs ls : List ℕ) (u : ℕ) → firsts_of ss ≡ fs → lasts_of ss ≡ ls → Listed t fs ls u → Sound t ss u
+sound_spans t ss fs ls u f l listed =
+    record {
+      three = sym (length-map ss (λ s. s.first)) ∙ ap length f ∙ listed.three.0;
+      size = listed.size;
+      room = listed.room;
+      total = ap (λ gs. used (chains_in t gs)) f ∙ listed.total;
+      ends = subst (λ gs. Ends (chains_in t gs) (lasts_of ss)) (sym f) (subst (λ gs. Ends (chains_in t fs) gs) (sym l) listed.ends);
+      once = subst (λ gs. Once (chains_in t gs) u) (sym f) listed.once;
+    }
+
 -- The chains of a new or emptied panel.
+
+abbrev pub no_spans : List Span
+no_spans = let none : Span = record { first = 0; last = 0 } in none ∷ none ∷ none ∷ []
 
 abbrev pub zeros : List ℕ
 zeros = 0 ∷ 0 ∷ 0 ∷ []
@@ -181,5 +208,5 @@ zero_at (suc (suc (suc k))) = refl
 pub empty : (t : List Record) → chains_in t zeros ≡ (λ _. [])
 empty t = λ i k. followed_is t (length t) (get_or zeros k 0) [] (zero_at k) refl (omega arith) i
 
-pub sound_empty : (t : List Record) → (2 ≤ length t) × (length t ≤ 4096) → Sound t zeros zeros 0
-sound_empty t size = sound_by (λ _. []) t zeros zeros 0 (empty t) (refl, refl) size (omega arith) refl zero_at (λ n. grind (arith, nat_tests))
+pub sound_empty : (t : List Record) → (2 ≤ length t) × (length t ≤ 4096) → Sound t no_spans 0
+sound_empty t size = sound_spans t no_spans zeros zeros 0 refl refl (sound_by (λ _. []) t zeros zeros 0 (empty t) (refl, refl) size (omega arith) refl zero_at (λ n. grind (arith, nat_tests)))

@@ -1,6 +1,7 @@
 -- How a table holds chains: each record names the next one, and 0 ends a chain. Assumes nothing.
-use Rattle.std.specs.Prelude.{◌≡◌, ℕ, zero, suc, ◌+◌, cond, ◌&&◌, List, [], ◌∷◌, length, Some, None, Option, ◌==◌, nat_le, nat_lt, slice_index, slice_index_or, slice_set}
+use Rattle.std.specs.Prelude.{◌≡◌, ℕ, zero, suc, ◌+◌, cond, ◌&&◌, List, [], ◌∷◌, length, map, Some, None, Option, ◌==◌, nat_le, nat_lt, slice_index, slice_index_or, slice_set}
 use Rattle.panel.specs.declared.record.Record.{Record}
+use Rattle.panel.specs.declared.chain.span.Span.{Span}
 use Rattle.panel.specs.declared.track.Track.{Track}
 use Rattle.panel.specs.Tracks.{track_of, track_number}
 use Rattle.panel.specs.Chains.{Entry, State, sum_below, is_full, fresh_number, last_number}
@@ -19,6 +20,13 @@ entry_at table n = record { number = n; port = (row table n).port; byte = (row t
 abbrev pub followed : List Record → ℕ → ℕ → List Entry
 followed table zero n = []
 followed table (suc most) n = cond (n == 0) [] (entry_at table n ∷ followed table most (row table n).next)
+
+-- The numbers of the first records of chains, and of the last ones.
+abbrev pub firsts_of : List Span → List ℕ
+firsts_of spans = map (λ s. s.first) spans
+
+abbrev pub lasts_of : List Span → List ℕ
+lasts_of spans = map (λ s. s.last) spans
 
 -- The chains that begin with these numbers.
 abbrev pub chains_in : List Record → List ℕ → ℕ → List Entry

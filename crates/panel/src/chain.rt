@@ -2,13 +2,15 @@
 // definitions can cite it; its calls are in the modules below.
 ghost use Rattle.std.specs.Prelude.{◌≡◌, ◌<◌, ◌≤◌, length};
 ghost use Rattle.panel.specs.Chains.{used as count};
-ghost use Rattle.panel.specs.Links.{Ends, Once, chains_in};
+ghost use Rattle.panel.specs.Links.{Ends, Once, chains_in, firsts_of, lasts_of};
 
+use crate::chain::span::Span;
 use crate::record::Record;
 
 mod host;
 pub mod panel;
 mod recording;
+pub mod span;
 mod view;
 pub mod walk;
 
@@ -17,17 +19,16 @@ pub mod walk;
 #[derive(Drop)]
 pub struct Chain {
     table: Vec<Record>,
-    // the numbers of each chain's first and last record, 0 for an empty chain
-    firsts: [u16; 3],
-    lasts: [u16; 3],
+    // one for each chain
+    spans: [Span; 3],
     // how many records are used: these are 1, 2 and so on
     used: u16,
     key: u8,
     latch: bool,
-    ghost three: { (length firsts ≡ 3) × (length lasts ≡ 3) },
+    ghost three: { length spans ≡ 3 },
     ghost size: { (2 ≤ length table.items) × (length table.items ≤ 4096) },
     ghost room: { used < length table.items },
-    ghost total: { count (chains_in table.items firsts) ≡ used },
-    ghost ends: { Ends (chains_in table.items firsts) lasts },
-    ghost once: { Once (chains_in table.items firsts) used },
+    ghost total: { count (chains_in table.items (firsts_of spans)) ≡ used },
+    ghost ends: { Ends (chains_in table.items (firsts_of spans)) (lasts_of spans) },
+    ghost once: { Once (chains_in table.items (firsts_of spans)) used },
 }

@@ -15,7 +15,6 @@ pub mod record;
 pub mod script;
 pub mod sent;
 pub mod track;
-pub mod unmade;
 
 // A panel means a state. Every make says by `make` what its states answer and become, and by `state` which one its value
 // means. The state holds everything that any call of the panel can ever show, the host's calls too.

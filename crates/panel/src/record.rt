@@ -3,6 +3,6 @@
 pub struct Record {
     pub port: u16,
     pub byte: u8,
-    // 0 ends the chain
+    // 0 ends the chain: it is no Option, since a table is handed over and printed in this form
     pub next: u16,
 }

@@ -9,7 +9,7 @@ pub mod panel;
 #[derive(Drop)]
 pub struct Script {
     bytes: Vec<u8>,
-    // how many of the bytes have been read
+    // how many of the bytes have been read; an iterator over the Vec would hold no more, and hide what is left
     place: usize,
     last_write: Option<Sent>,
     told: u32,

@@ -5,26 +5,25 @@ ghost use Rattle.panel.specs.Links.{row};
 ghost use Rattle.panel.specs.Shown.{chain_state, made, making, table_of};
 
 use crate::chain::Chain;
+use crate::chain::span::Span;
 use crate::record::Record;
-use crate::unmade::Unmade;
 use denial::Denial;
+use denial::unmade::Unmade;
 
 impl Chain {
     // A new panel over a table of 2 to 4,096 records, or 4 with the table handed back.
-    pub fn new(table: Vec<Record>) -> Result<Chain, Unmade>
+    pub fn new(table: Vec<Record>) -> Result<Chain, Unmade<Vec<Record>>>
         ensures { made result ≡ making table.items }
     {
-        let records = table.len();
-        if records < 2 || records > 4096 {
+        if !(2..=4096).contains(&table.len()) {
             return Err(Unmade {
                 denial: Denial::TableLength,
-                table,
+                given: table,
             });
         }
         Ok(Chain {
             table,
-            firsts: [0; 3],
-            lasts: [0; 3],
+            spans: [Span::EMPTY; 3],
             used: 0,
             key: 0,
             latch: false,
@@ -38,8 +37,7 @@ impl Chain {
     {
         let Chain {
             table,
-            firsts: _,
-            lasts: _,
+            spans: _,
             used: _,
             key: _,
             latch: _,
@@ -66,8 +64,7 @@ impl Chain {
         ensures after { chain_state self.new ≡ cleared (chain_state self.old) }
         ensures table { table_of self.new ≡ table_of self.old }
     {
-        self.firsts = [0; 3];
-        self.lasts = [0; 3];
+        self.spans = [Span::EMPTY; 3];
         self.used = 0;
     }
 }

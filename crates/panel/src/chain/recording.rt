@@ -6,6 +6,7 @@ ghost use Rattle.panel.specs.Tracks.{track_number};
 ghost use Rattle.std.specs.Prelude.{◌≡◌, false, Some, slice_set};
 
 use crate::chain::Chain;
+use crate::chain::span::Span;
 use crate::record::Record;
 use crate::track::Track;
 
@@ -35,15 +36,20 @@ impl Chain {
         ensures table { table_of self.new ≡ named (last_number 0 ((chain_state self.old).chain (track_number track))) number (table_of self.old) }
     {
         let chain = track.number();
-        let last = self.lasts[chain];
+        let Span { first, last } = self.spans[chain];
         if last == 0 {
-            self.firsts[chain] = number;
-            self.lasts[chain] = number;
+            self.spans[chain] = Span {
+                first: number,
+                last: number,
+            };
             self.used = number;
             return;
         }
         self.table[last as usize].next = number;
-        self.lasts[chain] = number;
+        self.spans[chain] = Span {
+            first,
+            last: number,
+        };
         self.used = number;
     }
 }

@@ -11,11 +11,11 @@ use crate::record::Record;
 use crate::track::Track;
 
 impl Chain {
-    // The number of a chain's first record, or 0.
+    // The number of a chain's first record, or 0, as a table says that there is none.
     pub fn first(&self, track: Track) -> u16
         ensures { result ≡ first_number ((chain_state self.now).chain (track_number track)) }
     {
-        self.firsts[track.number()]
+        self.spans[track.number()].first
     }
 
     // A used record by its number.

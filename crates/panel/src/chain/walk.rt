@@ -11,7 +11,7 @@ pub struct Walk<'a> {
     pub(super) panel: &'a Chain,
     // the number of the record to come, 0 at the end
     pub(super) number: u16,
-    // no more records than these are to come
+    // no more records than these are to come: `chain_state` alone doesn't say that next numbers come to an end
     pub(super) most: u16,
 }
 

@@ -28,7 +28,7 @@ index_mut-requires c =
     omega (arith, last_inside _ _ _ _ (ready (goal.at.index_mut-requires c).After-number-chain) c.if-last-eq0.false, c.args.self.now.table.ok.0)
 
 -- the last record as it was read
-read : (c : After-index_mut) → Ready c.args.self.now c.args.track c.number-chain.result c.args.number → c.index_mut.result.now ≡ row (table_of c.args.self.now) (get_or c.args.self.now.lasts c.number-chain.result 0)
+read : (c : After-index_mut) → Ready c.args.self.now c.args.track c.number-chain.result c.args.number → c.index_mut.result.now ≡ row (table_of c.args.self.now) (get_or c.args.self.now.spans c.number-chain.result (record { first = 0; last = 0 })).last
 read c r = get_or_read (table_of c.args.self.now) _ _ (last_inside _ _ _ _ r c.if-last-eq0.false) c.index_mut.ensures.value blank
 
 pub invariant_of-self-2 : goal.invariant_of-self-2
