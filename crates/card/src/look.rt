@@ -10,7 +10,7 @@ use registers::window::Window;
 use view::fill_through;
 
 // The most bytes that a look fills.
-const MOST: usize = 4096;
+pub const LONGEST: usize = 4096;
 
 // Of the card it borrows the three bytes of the window to change them, and the memory to read it.
 pub struct Look<'a, M> {
@@ -39,7 +39,7 @@ impl<'a, M: Memory> Look<'a, M> {
         ensures answer { answered result ≡ (if is_length (length buffer.old) then Ok tt else Err (numbered 7)) }
         ensures buffer { buffer.new ≡ (if is_length (length buffer.old) then looked (M.memory self.now.memory.now).byte self.now.window.now at (length buffer.old) else buffer.old) }
     {
-        if buffer.len() > MOST {
+        if buffer.len() > LONGEST {
             return Err(Denial::LookOutOfRange);
         }
         fill_through(self.memory, *self.window, at, buffer);

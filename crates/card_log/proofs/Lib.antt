@@ -1,3 +1,2 @@
 pub mod Differing
 pub mod Lines
-pub mod Looked

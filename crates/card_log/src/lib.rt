@@ -1,8 +1,9 @@
-// Logs of calls, replayed from the making of a card.
+// The replay of a log of calls, on one card or on two.
 #![tactic(auto)]
 
 mod difference;
+mod line;
 pub mod pair;
 pub mod replay;
 pub mod replayed;
-mod serving;
+mod session;

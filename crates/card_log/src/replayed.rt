@@ -1,4 +1,5 @@
-// What the replay of a log hands back.
+// What the replay of a log hands back. The lines served and whether memory ran out are each asked for, so both are fields, and
+// a replay that memory cut short is no error: its answers so far stand.
 use answers::answer::Answer;
 use card::card::Card;
 

@@ -51,10 +51,9 @@ where
 
 // The bytes of memory from address 0 on.
 pub(crate) fn holds<M: Memory, P>(rt: &impl Abort, card: &Card<M, P>, bytes: &[u8]) {
-    let mut at = 0u32;
-    for byte in bytes {
+    for (at, byte) in bytes.iter().enumerate() {
+        let at = u32::try_from(at).expect(rt, "an address has 32 bits");
         assert_eq!(rt; card.read(at), Ok(*byte));
-        at = at.wrapping_add(1);
     }
 }
 
@@ -135,17 +134,7 @@ pub(crate) fn ran(stop: Stop, steps: u32, cycles: u64, states: u64) -> Ran {
         steps,
         cycles,
         states,
-        fault: None,
     }
-}
-
-fn same_ran(rt: &impl Abort, is: Ran, expected: Ran) -> Result<(), Fail> {
-    assert_eq!(rt; is.stop, expected.stop);
-    assert_eq!(rt; is.steps, expected.steps);
-    assert_eq!(rt; is.cycles, expected.cycles);
-    assert_eq!(rt; is.states, expected.states);
-    assert_eq!(rt; is.fault, expected.fault);
-    Ok(())
 }
 
 pub(crate) fn runs<M: Memory, P: Panel>(
@@ -153,11 +142,8 @@ pub(crate) fn runs<M: Memory, P: Panel>(
     card: &mut Card<M, P>,
     budget: u32,
     expected: Ran,
-) -> Result<(), Fail> {
-    match card.run(budget) {
-        Ok(is) => same_ran(rt, is, expected),
-        Err(_) => Err(Fail::new("the budget is denied")),
-    }
+) {
+    assert_eq!(rt; card.run(budget), Ok(expected));
 }
 
 pub(crate) fn denied_as(

@@ -61,47 +61,39 @@ const FULL: Fault = Fault {
 
 fn stopped() -> Answer {
     Answer::Run(Ok(Ran {
-        stop: Stop::Fault,
+        stop: Stop::Fault(FULL),
         steps: 0,
         cycles: 0,
         states: 0,
-        fault: Some(FULL),
     }))
 }
 
-fn first_answers(heap: Global) -> Result<Vec<Answer>, Fail> {
-    let mut list = Vec::new(heap);
-    list.push(cost(2, 6))?;
-    list.push(Answer::Look(Ok(vec![in heap; 0xFF, 0x3E, 5]?)))?;
-    list.push(no_budget())?;
-    list.push(Answer::Run(Ok(ran(Stop::Spent, 1, 5, 13))))?;
-    list.push(no_budget())?;
-    list.push(Answer::Step(Err(FULL)))?;
-    list.push(stopped())?;
-    Ok(list)
+fn expected_answers(heap: Global) -> Result<Vec<Answer>, Fail> {
+    let answers = vec![in heap;
+        cost(2, 6),
+        Answer::Look(Ok(vec![in heap; 0xFF, 0x3E, 5]?)),
+        no_budget(),
+        Answer::Run(Ok(ran(Stop::Spent, 1, 5, 13))),
+        no_budget(),
+        Answer::Step(Err(FULL)),
+        stopped(),
+        no_look(),
+        no_look(),
+        no_look(),
+        Answer::Reset,
+        Answer::Look(Ok(vec![in heap; 0x80, 0xFF]?)),
+        Answer::Look(Ok(Vec::new(heap))),
+        Answer::Step(Err(Fault {
+            denial: Denial::PanelFull,
+            pc: 0,
+        })),
+    ]?;
+    Ok(answers)
 }
 
-fn last_answers(heap: Global) -> Result<Vec<Answer>, Fail> {
-    let mut list = Vec::new(heap);
-    list.push(no_look())?;
-    list.push(no_look())?;
-    list.push(no_look())?;
-    list.push(Answer::Reset)?;
-    list.push(Answer::Look(Ok(vec![in heap; 0x80, 0xFF]?)))?;
-    list.push(Answer::Look(Ok(Vec::new(heap))))?;
-    list.push(Answer::Step(Err(Fault {
-        denial: Denial::PanelFull,
-        pc: 0,
-    })))?;
-    Ok(list)
-}
-
-// The answers are those of both lists, one after the other.
-fn answered(rt: &impl Abort, answers: &[Answer], first: &[Answer], last: &[Answer]) {
+fn answered(rt: &impl Abort, answers: &[Answer], expected: &[Answer]) {
     assert_eq!(rt; answers.len(), 14);
-    assert_eq!(rt; first.len(), 7);
-    assert_eq!(rt; last.len(), 7);
-    let expected = first.iter().chain(last.iter());
+    assert_eq!(rt; expected.len(), 14);
     for (answer, right) in answers.iter().zip(expected) {
         assert!(rt; same(answer, right));
     }
@@ -119,12 +111,7 @@ fn every_kind_of_call(rt: HostRuntime) -> Result<(), Fail> {
     assert_eq!(rt; replayed.served, 14);
     pc_is(&rt, &replayed.card, 0);
     assert_eq!(rt; replayed.card.panel().used(), 1);
-    answered(
-        &rt,
-        &replayed.answers,
-        &first_answers(heap)?,
-        &last_answers(heap)?,
-    );
+    answered(&rt, &replayed.answers, &expected_answers(heap)?);
     Ok(())
 }
 
