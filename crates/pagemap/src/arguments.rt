@@ -8,7 +8,7 @@ use std::fmt;
 use text::hex;
 
 // Which of the three bytes.
-#[derive(Clone, Copy, Debug)]
+#[derive(Clone, Copy, Debug, PartialEq, Eq)]
 pub enum Place {
     Cbar,
     Cbr,
@@ -16,7 +16,7 @@ pub enum Place {
 }
 
 // Why the arguments make no window.
-#[derive(Clone, Copy, Debug)]
+#[derive(Clone, Copy, Debug, PartialEq, Eq)]
 pub enum BadArgument {
     NotThree,
     NotAByte(Place),

@@ -12,7 +12,6 @@ use memory::bank::Bank;
 use memory::length::BoardLength;
 use registers::window::Window;
 use std::alloc::{AllocError, Global};
-use text::hex::HexByte;
 
 // A line for each of the sixteen logical pages.
 fn pages<M: Memory>(
@@ -31,14 +30,14 @@ fn pages<M: Memory>(
 }
 
 // A physical page, if the window opens on it.
+#[tactic(auto, using(text::proofs::Written::printed))]
 fn opened_page(text: &mut String, window: Window, page: u8) -> Result<(), AllocError>
     ensures { OnOk result (string_bytes text.new ≡ string_bytes text.old ++ page_opened window page) }
 {
     if !window.opens_on(page) {
         return Ok(());
     }
-    let page = HexByte(page);
-    write!(text, " {page}")
+    write!(text, " {page:02X}")
 }
 
 // All physical pages that the window opens on.

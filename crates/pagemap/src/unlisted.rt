@@ -5,7 +5,7 @@ ghost use Rattle.std.specs.Prelude.{Some};
 use crate::arguments::BadArgument;
 use std::fmt;
 
-#[derive(Clone, Copy, Debug)]
+#[derive(Clone, Copy, Debug, PartialEq, Eq)]
 pub enum Unlisted {
     // an image of more than 524,288 bytes
     TooLong,
