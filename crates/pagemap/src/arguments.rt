@@ -55,10 +55,7 @@ impl fmt::Display for BadArgument {
 fn byte(place: Place, text: &str) -> Result<u8, BadArgument>
     ensures { result ≡ byte_for place text.now }
 {
-    match hex::byte(text.as_bytes()) {
-        Some(byte) => Ok(byte),
-        None => Err(BadArgument::NotAByte(place)),
-    }
+    hex::byte(text.as_bytes()).ok_or(BadArgument::NotAByte(place))
 }
 
 fn base(place: Place, text: &str) -> Result<u8, BadArgument>

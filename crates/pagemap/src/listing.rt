@@ -77,14 +77,9 @@ pub fn listing(heap: Global, image: &mut [u8], arguments: &[String]) -> Result<S
     let Ok(size) = BoardLength::of_bank(image) else {
         return Err(Unlisted::TooLong);
     };
-    let window = match window(arguments) {
-        Ok(window) => window,
-        Err(bad) => return Err(Unlisted::Argument(bad)),
-    };
+    let window = window(arguments)?;
     let bytes = image.len();
     let bank = Bank::new(image, size);
-    match map_text(heap, &bank, bytes, window) {
-        Ok(text) => Ok(text),
-        Err(_) => Err(Unlisted::NoMemory),
-    }
+    let text = map_text(heap, &bank, bytes, window)?;
+    Ok(text)
 }
