@@ -8,7 +8,7 @@ use std::fmt;
 use text::hex;
 
 // Which of the three bytes.
-#[derive(Clone, Copy, Debug)]
+#[derive(Clone, Copy, Debug, PartialEq, Eq)]
 pub enum Place {
     Cbar,
     Cbr,
@@ -16,7 +16,7 @@ pub enum Place {
 }
 
 // Why the arguments make no window.
-#[derive(Clone, Copy, Debug)]
+#[derive(Clone, Copy, Debug, PartialEq, Eq)]
 pub enum BadArgument {
     NotThree,
     NotAByte(Place),
@@ -55,10 +55,7 @@ impl fmt::Display for BadArgument {
 fn byte(place: Place, text: &str) -> Result<u8, BadArgument>
     ensures { result ≡ byte_for place text.now }
 {
-    match hex::byte(text.as_bytes()) {
-        Some(byte) => Ok(byte),
-        None => Err(BadArgument::NotAByte(place)),
-    }
+    hex::byte(text.as_bytes()).ok_or(BadArgument::NotAByte(place))
 }
 
 fn base(place: Place, text: &str) -> Result<u8, BadArgument>

@@ -4,7 +4,6 @@ ghost use Rattle.std.specs.Prelude.{Some};
 
 use registers::window::Window;
 use std::fmt;
-use text::hex::HexByte;
 
 #[derive(Clone, Copy, Debug)]
 pub struct Head {
@@ -15,14 +14,15 @@ pub struct Head {
 impl fmt::Display for Head {
     ghost output = { λ h. Some (head_text h.bytes h.window) };
 
+    #[tactic(auto, using(text::proofs::Written::byte_written), unfolding(crate::specs::Lines::head_text))]
     fn fmt<W: fmt::Write>(&self, f: &mut fmt::Formatter<W>) -> fmt::Result {
         let bytes = self.bytes;
-        let cbar = HexByte(self.window.cbar);
-        let cbr = HexByte(self.window.cbr);
-        let bbr = HexByte(self.window.bbr);
+        let cbar = self.window.cbar;
+        let cbr = self.window.cbr;
+        let bbr = self.window.bbr;
         write!(
             f,
-            "image   {bytes} bytes\nwindow  CBAR {cbar}  CBR {cbr}  BBR {bbr}\npage  area           shows  address  bytes  crc-32\n"
+            "image   {bytes} bytes\nwindow  CBAR {cbar:02X}  CBR {cbr:02X}  BBR {bbr:02X}\npage  area           shows  address  bytes  crc-32\n"
         )
     }
 }

@@ -12,7 +12,6 @@ use memory::bank::Bank;
 use memory::length::BoardLength;
 use registers::window::Window;
 use std::alloc::{AllocError, Global};
-use text::hex::HexByte;
 
 // A line for each of the sixteen logical pages.
 fn pages<M: Memory>(
@@ -31,14 +30,14 @@ fn pages<M: Memory>(
 }
 
 // A physical page, if the window opens on it.
+#[tactic(auto, using(text::proofs::Written::printed))]
 fn opened_page(text: &mut String, window: Window, page: u8) -> Result<(), AllocError>
     ensures { OnOk result (string_bytes text.new ≡ string_bytes text.old ++ page_opened window page) }
 {
     if !window.opens_on(page) {
         return Ok(());
     }
-    let page = HexByte(page);
-    write!(text, " {page}")
+    write!(text, " {page:02X}")
 }
 
 // All physical pages that the window opens on.
@@ -78,14 +77,9 @@ pub fn listing(heap: Global, image: &mut [u8], arguments: &[String]) -> Result<S
     let Ok(size) = BoardLength::of_bank(image) else {
         return Err(Unlisted::TooLong);
     };
-    let window = match window(arguments) {
-        Ok(window) => window,
-        Err(bad) => return Err(Unlisted::Argument(bad)),
-    };
+    let window = window(arguments)?;
     let bytes = image.len();
     let bank = Bank::new(image, size);
-    match map_text(heap, &bank, bytes, window) {
-        Ok(text) => Ok(text),
-        Err(_) => Err(Unlisted::NoMemory),
-    }
+    let text = map_text(heap, &bank, bytes, window)?;
+    Ok(text)
 }

@@ -8,8 +8,6 @@ use crate::page::page_bytes;
 use memory::Memory;
 use registers::window::{Area, Window};
 use std::fmt;
-use text::columns::Right4;
-use text::hex::{HexAddress, HexByte, HexDigit, HexLong};
 
 // A logical page: its area, the physical page it shows, how many addresses of that the image has, and the CRC-32 of
 // its bytes as they are read through the window.
@@ -59,16 +57,18 @@ fn name(area: Area) -> &'static str
 impl fmt::Display for PageReport {
     ghost output = { λ r. Some (page_line r) };
 
+    #[tactic(auto, using(text::proofs::Written::printed), unfolding(crate::specs::Lines::page_line))]
     fn fmt<W: fmt::Write>(&self, f: &mut fmt::Formatter<W>) -> fmt::Result {
-        let page = HexDigit(self.page);
+        // in one digit
+        let page = self.page % 16;
         let area = name(self.area);
-        let shown = HexByte(self.shown);
-        let address = HexAddress(u32::from(self.shown) * 4096);
-        let present = Right4(self.present);
-        let crc = HexLong(self.crc);
+        let shown = self.shown;
+        let address = u32::from(self.shown) * 4096;
+        let present = self.present;
+        let crc = self.crc;
         write!(
             f,
-            "   {page}  {area}     {shown}    {address}   {present}  {crc}"
+            "   {page:X}  {area}     {shown:02X}    {address:05X}   {present:>4}  {crc:08X}"
         )
     }
 }

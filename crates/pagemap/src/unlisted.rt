@@ -1,11 +1,13 @@
 // Why there is no listing.
 ghost use Rattle.pagemap.specs.Listing.{unlisted_line};
-ghost use Rattle.std.specs.Prelude.{Some};
+ghost use Rattle.pagemap.specs.declared.unlisted.Unlisted.TheVariants.{Argument, NoMemory};
+ghost use Rattle.std.specs.Prelude.{◌≡◌, Some};
 
 use crate::arguments::BadArgument;
+use std::alloc::AllocError;
 use std::fmt;
 
-#[derive(Clone, Copy, Debug)]
+#[derive(Clone, Copy, Debug, PartialEq, Eq)]
 pub enum Unlisted {
     // an image of more than 524,288 bytes
     TooLong,
@@ -23,5 +25,21 @@ impl fmt::Display for Unlisted {
             Unlisted::Argument(bad) => write!(f, "{bad}"),
             Unlisted::NoMemory => f.write_str("no memory for the listing"),
         }
+    }
+}
+
+impl From<BadArgument> for Unlisted {
+    ghost from_gives = { λ bad u. u ≡ Argument bad };
+
+    fn from(bad: BadArgument) -> Unlisted {
+        Self::Argument(bad)
+    }
+}
+
+impl From<AllocError> for Unlisted {
+    ghost from_gives = { λ _ u. u ≡ NoMemory };
+
+    fn from(_: AllocError) -> Unlisted {
+        Self::NoMemory
     }
 }

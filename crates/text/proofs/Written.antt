@@ -1,6 +1,7 @@
 -- What std writes of a number with `{:02X}`, `{:04X}`, `{:05X}`, `{:08X}` and `{:>4}` is the text of the definitions. Assumes nothing.
-use Rattle.std.proofs.Common.{◌≡◌, ℕ, zero, suc, ◌+◌, ◌-◌, ◌/◌, ◌%◌, ◌^◌, ◌<◌, ◌≤◌, Bool, true, false, cond, List, [], ◌∷◌, ◌++◌, length, replicate, refl, sym, ap, ◌∙◌, append-nil, arith, decimal, ◌==◌, nat_lt, length-append, ⊎_elim}
-use Rattle.std.specs.Fmt.{char_count, digit_glyph, digits, digits_onto, format_spec, padded_integral}
+use Rattle.std.proofs.Common.{◌≡◌, ℕ, zero, suc, ◌+◌, ◌-◌, ◌/◌, ◌%◌, ◌^◌, ◌<◌, ◌≤◌, Bool, true, false, cond, List, [], ◌∷◌, ◌++◌, length, replicate, refl, sym, ap, ◌∙◌, append-nil, arith, decimal, ◌==◌, nat_lt, length-append, ⊎_elim, Some}
+use Rattle.std.specs.Fmt.{char_count, digits, digits_onto, digits_output, format_spec, padded_integral, radix_prefix, shown_prefix, styled_digits_output}
+use Rattle.std.specs.Option.{option_map}
 use Rattle.std.proofs.lemmas.Bool.{cases_lt, eqb-true, eqb-false}
 use Rattle.std.proofs.lemmas.Fmt.{hex_one_digit, decimal_digit, decimal_nonempty, decimal_step}
 use Rattle.std.specs.List.{repeat}
@@ -76,8 +77,9 @@ same_digit a b same = ap (λ d. cond (nat_lt d 10) (48 + d) (55 + d)) same
 same_four : (a b c d e f g h : ℕ) → a % 16 ≡ e % 16 → b % 16 ≡ f % 16 → c % 16 ≡ g % 16 → d % 16 ≡ h % 16 → {behind : List ℕ} → hex_digit a ∷ hex_digit b ∷ hex_digit c ∷ hex_digit d ∷ behind ≡ hex_digit e ∷ hex_digit f ∷ hex_digit g ∷ hex_digit h ∷ behind
 same_four a b c d e f g h p q r s {behind} i = same_digit a e p i ∷ same_digit b f q i ∷ same_digit c g r i ∷ same_digit d h s i ∷ behind
 
-pub digit_written : (n : ℕ) → n < 16 → digits 16 true n ≡ hex_digit n ∷ []
-digit_written n small = let same : n % 16 ≡ n = omega arith in hex_one_digit true n small ∙ ap (λ d. digit_glyph true d ∷ []) (sym same)
+-- one digit
+pub digit_written : (n : ℕ) → digits 16 true (n % 16) ≡ hex_digit n ∷ []
+digit_written n = hex_one_digit true (n % 16) (omega arith)
 
 pub byte_written : (n : ℕ) → n < 256 → padded_integral (format_spec 32 0 4 2 (2 ^ 64 - 1)) false [] (digits 16 true n) ≡ hex_byte n
 unfolding last_digits Fits
@@ -153,3 +155,19 @@ right_written n small = standing (decimal n) ∙ ap (λ l. l ++ decimal n) (colu
 
 -- all of these, for a function that prints such numbers
 pub ruleset printed = (digit_written, byte_written, word_written, address_written, long_written, right_written)
+
+-- a hole with options, by the number that it holds
+hole : (d : _) (s t : _) (n : ℕ) (text : List ℕ) → digits_output d ≡ Some (digits 16 true n) → s ≡ t → ((prefix : List ℕ) → shown_prefix t prefix ≡ []) → padded_integral t false [] (digits 16 true n) ≡ text → styled_digits_output d s ≡ Some text
+hole d s t n text number spec bare is =
+    (λ i. option_map (padded_integral (spec i) false (shown_prefix (spec i) (radix_prefix d.base))) (number i))
+    ∙ ap (λ prefix. Some (padded_integral t false prefix (digits 16 true n))) (bare (radix_prefix d.base))
+    ∙ ap Some is
+
+pub byte_hole : (d : _) (s : _) (n : ℕ) → digits_output d ≡ Some (digits 16 true n) → s ≡ format_spec 32 0 4 2 (2 ^ 64 - 1) → n < 256 → styled_digits_output d s ≡ Some (hex_byte n)
+byte_hole d s n number spec small = hole d s (format_spec 32 0 4 2 (2 ^ 64 - 1)) n (hex_byte n) number spec (λ _. refl) (byte_written n small)
+
+pub address_hole : (d : _) (s : _) (n : ℕ) → digits_output d ≡ Some (digits 16 true n) → s ≡ format_spec 32 0 4 5 (2 ^ 64 - 1) → n < 1048576 → styled_digits_output d s ≡ Some (hex_address n)
+address_hole d s n number spec small = hole d s (format_spec 32 0 4 5 (2 ^ 64 - 1)) n (hex_address n) number spec (λ _. refl) (address_written n small)
+
+pub long_hole : (d : _) (s : _) (n : ℕ) → digits_output d ≡ Some (digits 16 true n) → s ≡ format_spec 32 0 4 8 (2 ^ 64 - 1) → n < 2 ^ 32 → styled_digits_output d s ≡ Some (hex_long n)
+long_hole d s n number spec small = hole d s (format_spec 32 0 4 8 (2 ^ 64 - 1)) n (hex_long n) number spec (λ _. refl) (long_written n small)

@@ -3,11 +3,11 @@ use Rattle.memory.specs.Boards.{bank_memory}
 use Rattle.pagemap.proofs.Asked.{fits, granted}
 use Rattle.pagemap.proofs.listing.listing.Goals as goal
 
-pub returns-in-Ok-map_text : goal.returns-in-Ok-map_text
-returns-in-Ok-map_text c =
+pub returns : goal.returns
+returns c =
     let image = c.args.image.now in
     let size = fits (length image) c.in-Ok.size.bytes c.in-Ok.ensures.answer in
     record {
-      answer = granted (map string_bytes c.args.arguments.now) image (string_bytes c.in-Ok-map_text.text) c.in-Ok-window.window (bank_memory c.new-bank.result) size.0 c.in-Ok-window.ensures (c.new-bank.ensures.whole (omega (arith, size.1))) c.in-Ok-map_text.ensures;
+      answer = granted (map string_bytes c.args.arguments.now) image (string_bytes c.in_ok-text.text) c.in_ok-window.window (bank_memory c.new-bank.result) size.0 c.in_ok-window.ensures (c.new-bank.ensures.whole (omega (arith, size.1))) c.in_ok-text.ensures;
       same = search rules;
     }
