@@ -9,6 +9,7 @@ use memory::Memory;
 use operands::address::counted;
 use panel::Panel;
 use panel::line::Line;
+use view::byte_through;
 
 impl<M: Memory, P: Panel> Machine<M, P> {
     // Nothing outside the processor, for so many states.
@@ -27,11 +28,7 @@ impl<M: Memory, P: Panel> Machine<M, P> {
         ensures { Gives {n = 0} P.make M.memory P.state (λ p. tree.read at (λ b. got b p)) self.old result self.new }
     {
         self.internal(3);
-        // a translated address is never denied
-        match self.memory.read(self.window.physical(at)) {
-            Ok(byte) => byte,
-            Err(_) => 0xFF,
-        }
+        byte_through(&self.memory, self.window, at)
     }
 
     pub fn write(&mut self, at: u16, byte: u8)

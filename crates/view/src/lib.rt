@@ -2,7 +2,7 @@
 #![tactic(auto)]
 
 ghost use Rattle.registers.specs.Window.{physical_of};
-ghost use Rattle.std.specs.Prelude.{◌≡◌, ◌≤◌, length};
+ghost use Rattle.std.specs.Prelude.{◌≡◌, length};
 ghost use Rattle.view.specs.Views.{shown};
 
 use memory::Memory;
@@ -18,12 +18,11 @@ pub fn byte_through<M: Memory>(memory: &M, window: Window, at: u16) -> u8
     }
 }
 
-// Fills a buffer, no longer than there are logical addresses, with the bytes from one on.
+// Fills a buffer with the bytes from a logical address on. Addresses wrap at the end of the logical space.
 pub fn fill_through<M: Memory>(memory: &M, window: Window, at: u16, buffer: &mut [u8])
-    requires { length buffer.old ≤ 65536 }
     ensures { buffer.new ≡ shown (M.memory memory.now).byte window at (length buffer.old) }
 {
     for (k, byte) in buffer.iter_mut().enumerate() {
-        *byte = byte_through(memory, window, at.wrapping_add(k as u16));
+        *byte = byte_through(memory, window, at.wrapping_add((k % 65_536) as u16));
     }
 }
