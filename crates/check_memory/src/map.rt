@@ -11,11 +11,10 @@ fn the_published_check_value(rt: HostRuntime) {
 }
 
 fn arguments(heap: Global, words: &[&str]) -> Result<Vec<String>, AllocError> {
-    let mut list = Vec::new(heap);
-    for word in words {
-        list.push(String::from_str(heap, word)?)?;
-    }
-    Ok(list)
+    words
+        .iter()
+        .map(|word| String::from_str(heap, word))
+        .try_collect(heap)
 }
 
 // The line printed in place of a listing of a one-byte image.
