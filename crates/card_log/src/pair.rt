@@ -21,8 +21,6 @@ fn serve_both<M: Memory, N: Memory, P: Panel>(
 ) -> Result<(), AllocError>
     requires first { first.old.answers.items ≡ [] }
     requires second { second.old.answers.items ≡ [] }
-    requires first_len { vec_len first.old.answers ≡ 0 }
-    requires second_len { vec_len second.old.answers ≡ 0 }
     ensures first { so_far M.memory P.state first.new.card first.new.answers.items ≡ reached P.make (map call_of (take (vec_len first.new.answers) log.now)) (model M.memory P.state first.old.card) }
     ensures second { so_far N.memory P.state second.new.card second.new.answers.items ≡ reached P.make (map call_of (take (vec_len first.new.answers) log.now)) (model N.memory P.state second.old.card) }
     ensures even { vec_len first.new.answers ≡ vec_len second.new.answers }

@@ -23,7 +23,6 @@ impl<M: Memory, P: Panel> Session<M, P> {
     pub(crate) fn new(heap: Global, memory: M, panel: P) -> Session<M, P>
         ensures card { model M.memory P.state result.card ≡ made (M.memory memory) (P.state panel) }
         ensures answers { result.answers.items ≡ [] }
-        ensures len { vec_len result.answers ≡ 0 }
     {
         Session {
             card: Card::new(memory, panel),
@@ -53,10 +52,9 @@ impl<M: Memory, P: Panel> Session<M, P> {
         self.answers.push(answer).unwrap();
     }
 
-    // Serves the lines of a log, as far as memory for the answers goes.
+    // Serves the lines of a log on a card that has answered nothing yet, as far as memory for the answers goes.
     pub(crate) fn serve(&mut self, heap: Global, log: &[Call]) -> Result<(), AllocError>
-        requires answers { self.old.answers.items ≡ [] }
-        requires len { vec_len self.old.answers ≡ 0 }
+        requires { self.old.answers.items ≡ [] }
         ensures so_far { so_far M.memory P.state self.new.card self.new.answers.items ≡ reached P.make (map call_of (take (vec_len self.new.answers) log.now)) (model M.memory P.state self.old.card) }
         ensures whole { OnOk result (vec_len self.new.answers ≡ length log.now) }
     {
