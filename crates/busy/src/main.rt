@@ -21,7 +21,6 @@ use registers::window::Window;
 use std::alloc::{AllocError, Global};
 use std::io::Read;
 use sum::checksum;
-use text::hex::{HexByte, HexLong, HexWord};
 
 const BYTES: usize = 65_536;
 
@@ -34,13 +33,8 @@ struct Ran {
 }
 
 fn memory_with_image(heap: Global) -> Result<Vec<u8>, AllocError> {
-    let mut bytes = Vec::new(heap);
-    for byte in &IMAGE {
-        bytes.push(*byte)?;
-    }
-    for _ in IMAGE.len()..BYTES {
-        bytes.push(0)?;
-    }
+    let mut bytes = Vec::from_slice(heap, &IMAGE)?;
+    bytes.resize(BYTES, 0)?;
     Ok(bytes)
 }
 
@@ -77,13 +71,11 @@ fn run(heap: Global, bytes: &mut [u8], size: BoardLength, count: u64) -> Ran {
 }
 
 fn show(rt: &HostRuntime, count: u64, ran: Ran, bytes: &[u8]) -> anyhow::Result<()> {
-    let states = ran.states;
-    let sum = HexLong(checksum(&ran.cpu, bytes));
-    println!(rt; "steps {count}\nchecksum {sum}")?;
-    if let Some(last) = ran.last {
-        let port = HexWord(last.port);
-        let byte = HexByte(last.byte);
-        println!(rt; "last port write {port} {byte}")?;
+    let Ran { cpu, states, last } = ran;
+    let sum = checksum(&cpu, bytes);
+    println!(rt; "steps {count}\nchecksum {sum:08X}")?;
+    if let Some(Sent { port, byte }) = last {
+        println!(rt; "last port write {port:04X} {byte:02X}")?;
     }
     println!(rt; "states {states}")?;
     Ok(())

@@ -10,20 +10,14 @@ fn mixed(sum: u32, byte: u8) -> u32 {
 }
 
 fn all_mixed(sum: u32, bytes: &[u8]) -> u32 {
-    let mut all = sum;
-    for byte in bytes {
-        all = mixed(all, *byte);
-    }
-    all
+    bytes.iter().fold(sum, |all, byte| mixed(all, *byte))
 }
 
 // Words go in high byte first.
 fn words_mixed(sum: u32, words: &[u16]) -> u32 {
-    let mut all = sum;
-    for word in words {
-        all = all_mixed(all, &word.to_be_bytes());
-    }
-    all
+    words
+        .iter()
+        .fold(sum, |all, word| all_mixed(all, &word.to_be_bytes()))
 }
 
 pub fn checksum(cpu: &Registers, bytes: &[u8]) -> u32 {

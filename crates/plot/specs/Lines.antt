@@ -6,7 +6,7 @@ use Rattle.registers.specs.declared.registers.Registers.{Registers}
 use Rattle.registers.specs.declared.window.Window.{Window}
 use Rattle.panel.specs.declared.record.Record.{Record}
 use Rattle.panel.specs.declared.track.Track.{Track}
-use Rattle.panel.specs.declared.track.Track.TheVariants.{Pen, X, Y}
+use Rattle.panel.specs.Tracks.{track_name}
 use Rattle.processor.specs.Run.{Ran}
 use Rattle.card.specs.Stops.{stop_name}
 
@@ -23,11 +23,6 @@ run_line r =
 unfoldable pub register_line : Registers → Window → List ℕ
 register_line cpu w =
     codes "pc=" ++ (hex_word cpu.pc ++ (codes " sp=" ++ (hex_word cpu.sp ++ (codes " af=" ++ (hex_byte cpu.main.a ++ (hex_byte (flags.byte cpu.main.f) ++ (codes " cbar=" ++ hex_byte w.cbar)))))))
-
-abbrev pub track_name : Track → List ℕ
-track_name Pen = codes "pen"
-track_name X = codes "x"
-track_name Y = codes "y"
 
 -- A record with its number: the numbers of records are decimal, port and byte hexadecimal.
 unfoldable pub record_line : Track → ℕ → Record → List ℕ

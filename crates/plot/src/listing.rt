@@ -59,8 +59,5 @@ pub fn listing(
 ) -> Result<String, Unplotted>
     ensures { Lists result (text_of_plot (ran_of ran) cpu window (chain_state panel.now)) }
 {
-    match plot_text(heap, ran, cpu, window, panel) {
-        Ok(text) => Ok(text),
-        Err(_) => Err(Unplotted::NoMemory),
-    }
+    Ok(plot_text(heap, ran, cpu, window, panel)?)
 }

@@ -1,6 +1,6 @@
 // The line of a record: its chain, its number, what was written, and the number of the next record.
-ghost use Rattle.plot.specs.Lines.{record_line, track_name};
-ghost use Rattle.std.specs.Prelude.{◌≡◌, Some};
+ghost use Rattle.plot.specs.Lines.{record_line};
+ghost use Rattle.std.specs.Prelude.{Some};
 
 use panel::record::Record;
 use panel::track::Track;
@@ -13,22 +13,12 @@ pub struct RecordLine {
     pub record: Record,
 }
 
-fn name(track: Track) -> &'static str
-    ensures { result.now ≡ track_name track }
-{
-    match track {
-        Track::Pen => "pen",
-        Track::X => "x",
-        Track::Y => "y",
-    }
-}
-
 impl fmt::Display for RecordLine {
     ghost output = { λ l. Some (record_line l.track l.number l.record) };
 
     #[tactic(auto, using(text::proofs::Written::printed), unfolding(crate::specs::Lines::record_line))]
     fn fmt<W: fmt::Write>(&self, f: &mut fmt::Formatter<W>) -> fmt::Result {
-        let track = name(self.track);
+        let track = self.track;
         let number = self.number;
         let port = self.record.port;
         let byte = self.record.byte;

@@ -1,7 +1,9 @@
 // Why there is no listing.
 ghost use Rattle.plot.specs.Listing.{unplotted_line};
-ghost use Rattle.std.specs.Prelude.{Some};
+ghost use Rattle.plot.specs.declared.unplotted.Unplotted.TheVariants.{NoMemory};
+ghost use Rattle.std.specs.Prelude.{◌≡◌, Some};
 
+use std::alloc::AllocError;
 use std::fmt;
 
 #[derive(Clone, Copy, Debug, PartialEq, Eq)]
@@ -20,5 +22,13 @@ impl fmt::Display for Unplotted {
             Unplotted::TooLong => f.write_str("too long"),
             Unplotted::NoMemory => f.write_str("no memory for the listing"),
         }
+    }
+}
+
+impl From<AllocError> for Unplotted {
+    ghost from_gives = { λ _ u. u ≡ NoMemory };
+
+    fn from(_: AllocError) -> Unplotted {
+        Self::NoMemory
     }
 }
