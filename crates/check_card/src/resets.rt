@@ -1,9 +1,10 @@
 // All registers after a few steps, and after reset.
-use crate::cards::{control_bytes, holds, over, quiet, set_bytes, words};
+use crate::cards::{control, holds, over, quiet, set_bytes, words};
 use card::card::Card;
 use memory::Memory;
 use panel::Panel;
 use panel::sent::Sent;
+use registers::registers::{InterruptMode, Mode};
 use registers::window::Window;
 use std::process::Abort;
 use std::test::Fail;
@@ -29,8 +30,13 @@ fn after_the_program<M: Memory, P>(rt: &impl Abort, card: &Card<M, P>) {
     assert_eq!(rt; set_bytes(cpu.alternate), [0x12, 0, 2, 3, 0, 0, 0, 0]);
     assert_eq!(rt; words(cpu), [0xABCD, 0x2001, 0x1234, 34]);
     assert_eq!(rt;
-        control_bytes(cpu),
-        [0x12, 21, 1, 1, 2, 0, 1, 0x40, 0x39, 0x1F]
+        control(cpu),
+        (
+            [0x12, 21, 0x40, 0x39, 0x1F],
+            [true, true, true],
+            InterruptMode::Two,
+            Mode::Running
+        )
     );
     assert_eq!(rt;
         window,
@@ -47,7 +53,15 @@ fn after_reset<M: Memory, P>(rt: &impl Abort, card: &Card<M, P>) {
     assert_eq!(rt; set_bytes(cpu.main), [0; 8]);
     assert_eq!(rt; set_bytes(cpu.alternate), [0; 8]);
     assert_eq!(rt; words(cpu), [0; 4]);
-    assert_eq!(rt; control_bytes(cpu), [0, 0, 0, 0, 0, 0, 0, 0, 0x39, 0x1F]);
+    assert_eq!(rt;
+        control(cpu),
+        (
+            [0, 0, 0, 0x39, 0x1F],
+            [false; 3],
+            InterruptMode::Zero,
+            Mode::Running
+        )
+    );
     assert_eq!(rt;
         window,
         Window {
@@ -84,7 +98,15 @@ fn a_reset_wakes_the_card(rt: HostRuntime) -> Result<(), Fail> {
     steps(&mut card, 3)?;
     let (cpu, _) = card.registers();
     assert_eq!(rt; set_bytes(cpu.alternate), [0, 1, 0, 0, 0, 0, 0, 0]);
-    assert_eq!(rt; control_bytes(cpu), [0, 4, 0, 0, 0, 2, 0, 0, 0x39, 0x1F]);
+    assert_eq!(rt;
+        control(cpu),
+        (
+            [0, 4, 0, 0x39, 0x1F],
+            [false; 3],
+            InterruptMode::Zero,
+            Mode::Asleep
+        )
+    );
     card.reset();
     after_reset(&rt, &card);
     holds(&rt, &card, &[0x37, 0x08, 0xED, 0x76, 0xFF]);
