@@ -14,4 +14,4 @@ unwrapped m w a n fits =
     let wrapping = λ (k : ℕ). m.byte (physical_of w ((a + k) % 65536)) in
     fill_by_all (λ k. byte_seen_through m w (a + k)) (map wrapping (range_with_len 0 n)) n 0 (length-map-range_with_len wrapping 0 n)
     (λ k h. let same : (a + k) % 65536 ≡ a + k = omega arith in
-       get_or-map-range_with_len wrapping 0 n k k 0 h (omega arith) ∙ ap (λ j. m.byte (physical_of w j)) same)
+    get_or-map-range_with_len wrapping 0 n k k 0 h (omega arith) ∙ ap (λ j. m.byte (physical_of w j)) same)
