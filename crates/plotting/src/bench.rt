@@ -6,7 +6,6 @@ ghost use Rattle.plotting.specs.Plotting.{filled};
 
 use panel::chain::Chain;
 use panel::record::Record;
-use plot::unplotted::Unplotted;
 use std::alloc::{AllocError, Global};
 
 // The bytes of the bank.
@@ -40,14 +39,12 @@ fn table(heap: Global) -> Result<Vec<Record>, AllocError>
 }
 
 // A new panel over such a table.
-pub(crate) fn new_panel(heap: Global) -> Result<Chain, Unplotted>
+pub(crate) fn new_panel(heap: Global) -> Result<Chain, AllocError>
     ensures { IfOk result (λ p. chain_state p ≡ new_chain 63) }
 {
-    let Ok(table) = table(heap) else {
-        return Err(Unplotted::NoMemory);
-    };
-    match Chain::new(table) {
+    match Chain::new(table(heap)?) {
         Ok(panel) => Ok(panel),
-        Err(_) => Err(Unplotted::NoMemory),
+        // 64 records are a table
+        Err(_) => unreachable!(),
     }
 }

@@ -47,15 +47,12 @@ fn image_listing(heap: Global, image: &[u8]) -> Result<String, Unplotted>
     requires { length image.now ≤ 65536 }
     ensures { Lists result (image_text image.now) }
 {
-    let Ok(mut bytes) = bank_bytes(heap, image) else {
-        return Err(Unplotted::NoMemory);
-    };
+    let mut bytes = bank_bytes(heap, image)?;
     let Ok(size) = BoardLength::of_bank(bytes.as_slice()) else {
-        return Err(Unplotted::NoMemory);
+        // 65,536 bytes are a bank
+        unreachable!()
     };
-    let Ok(panel) = new_panel(heap) else {
-        return Err(Unplotted::NoMemory);
-    };
+    let panel = new_panel(heap)?;
     let bank = Bank::new(bytes.as_mut_slice(), size);
     run_listing(heap, bank, panel, STATES)
 }
