@@ -4,7 +4,7 @@
 pub mod arguments;
 pub mod crc;
 mod head;
+mod image;
 pub mod listing;
-mod page;
 mod report;
 pub mod unlisted;

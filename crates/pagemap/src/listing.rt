@@ -5,6 +5,7 @@ ghost use Rattle.pagemap.specs.Listing.{Answers, asked, text_of_map, opened_text
 
 use crate::arguments::window;
 use crate::head::Head;
+use crate::image::Image;
 use crate::report::PageReport;
 use crate::unlisted::Unlisted;
 use memory::Memory;
@@ -14,16 +15,11 @@ use registers::window::Window;
 use std::alloc::{AllocError, Global};
 
 // A line for each of the sixteen logical pages.
-fn pages<M: Memory>(
-    text: &mut String,
-    memory: &M,
-    bytes: usize,
-    window: Window,
-) -> Result<(), AllocError>
-    ensures { OnOk result (string_bytes text.new ≡ string_bytes text.old ++ pages_text (M.Memory.memory memory.now) bytes window 16) }
+fn pages<M: Memory>(text: &mut String, image: &Image<'_, M>) -> Result<(), AllocError>
+    ensures { OnOk result (string_bytes text.new ≡ string_bytes text.old ++ pages_text (M.memory image.now.memory.now) image.now.bytes image.now.window 16) }
 {
     for page in 0..16u8 {
-        let report = PageReport::of(memory, bytes, window, page);
+        let report = PageReport::of(image, page);
         writeln!(text, "{report}")?;
     }
     Ok(())
@@ -50,21 +46,19 @@ fn opened(text: &mut String, window: Window) -> Result<(), AllocError>
     Ok(())
 }
 
-// The listing of a bank that means the image.
-fn map_text<M: Memory>(
-    heap: Global,
-    memory: &M,
-    bytes: usize,
-    window: Window,
-) -> Result<String, AllocError>
-    ensures { IfOk result (λ text. string_bytes text ≡ text_of_map (M.Memory.memory memory.now) bytes window) }
+// The listing of an image.
+fn map_text<M: Memory>(heap: Global, image: &Image<'_, M>) -> Result<String, AllocError>
+    ensures { IfOk result (λ text. string_bytes text ≡ text_of_map (M.memory image.now.memory.now) image.now.bytes image.now.window) }
 {
-    let head = Head { bytes, window };
+    let head = Head {
+        bytes: image.bytes,
+        window: image.window,
+    };
     let mut text = String::new(heap);
     write!(text, "{head}")?;
-    pages(&mut text, memory, bytes, window)?;
+    pages(&mut text, image)?;
     write!(text, "opens on")?;
-    opened(&mut text, window)?;
+    opened(&mut text, image.window)?;
     writeln!(text, "")?;
     Ok(text)
 }
@@ -80,6 +74,11 @@ pub fn listing(heap: Global, image: &mut [u8], arguments: &[String]) -> Result<S
     let window = window(arguments)?;
     let bytes = image.len();
     let bank = Bank::new(image, size);
-    let text = map_text(heap, &bank, bytes, window)?;
+    let image = Image {
+        memory: &bank,
+        bytes,
+        window,
+    };
+    let text = map_text(heap, &image)?;
     Ok(text)
 }

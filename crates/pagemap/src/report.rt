@@ -4,9 +4,9 @@ ghost use Rattle.pagemap.specs.Lines.{area_name, page_line, page_report};
 ghost use Rattle.pagemap.specs.Pages.{present as present_of};
 
 use crate::crc::crc32;
-use crate::page::page_bytes;
+use crate::image::Image;
 use memory::Memory;
-use registers::window::{Area, Window};
+use registers::window::Area;
 use std::fmt;
 
 // A logical page: its area, the physical page it shows, how many addresses of that the image has, and the CRC-32 of
@@ -28,18 +28,18 @@ fn present(bytes: usize, page: u8) -> u16
 }
 
 impl PageReport {
-    // The report of a logical page of a memory in which so many bytes are present.
-    pub fn of<M: Memory>(memory: &M, bytes: usize, window: Window, page: u8) -> PageReport
+    // The report of a logical page of an image.
+    pub fn of<M: Memory>(image: &Image<'_, M>, page: u8) -> PageReport
         requires { page < 16 }
-        ensures { result ≡ page_report (M.Memory.memory memory.now) bytes window page }
+        ensures { result ≡ page_report (M.memory image.now.memory.now) image.now.bytes image.now.window page }
     {
-        let shown = window.shown_page(page);
+        let shown = image.window.shown_page(page);
         PageReport {
             page,
-            area: window.area(page),
+            area: image.window.area(page),
             shown,
-            present: present(bytes, shown),
-            crc: crc32(&page_bytes(memory, window, page)),
+            present: present(image.bytes, shown),
+            crc: crc32(&image.page(page)),
         }
     }
 }
