@@ -1,3 +1,4 @@
 pub mod Appending
 pub mod Asked
 pub mod Filling
+mod Areas

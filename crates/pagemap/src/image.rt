@@ -21,12 +21,7 @@ impl<M: Memory> Image<'_, M> {
         ensures { result ≡ bytes_through (M.memory self.now.memory.now) self.now.window (page * 4096) 4096 }
     {
         let mut bytes = [0; 4096];
-        fill_through(
-            self.memory,
-            self.window,
-            u16::from(page) * 4096,
-            &mut bytes,
-        );
+        fill_through(self.memory, self.window, u16::from(page) * 4096, &mut bytes);
         bytes
     }
 }

@@ -44,16 +44,6 @@ impl PageReport {
     }
 }
 
-fn name(area: Area) -> &'static str
-    ensures { result.now ≡ area_name area }
-{
-    match area {
-        Area::Common0 => "common area 0",
-        Area::Bank => "bank area    ",
-        Area::Common1 => "common area 1",
-    }
-}
-
 impl fmt::Display for PageReport {
     ghost output = { λ r. Some (page_line r) };
 
@@ -61,14 +51,14 @@ impl fmt::Display for PageReport {
     fn fmt<W: fmt::Write>(&self, f: &mut fmt::Formatter<W>) -> fmt::Result {
         // in one digit
         let page = self.page % 16;
-        let area = name(self.area);
+        let area = self.area;
         let shown = self.shown;
         let address = u32::from(self.shown) * 4096;
         let present = self.present;
         let crc = self.crc;
         write!(
             f,
-            "   {page:X}  {area}     {shown:02X}    {address:05X}   {present:>4}  {crc:08X}"
+            "   {page:X}  {area:<13}     {shown:02X}    {address:05X}   {present:>4}  {crc:08X}"
         )
     }
 }
