@@ -5,7 +5,8 @@ use anyhow::anyhow;
 use plotting::image::plot;
 use std::io::Read;
 
-// A byte more than the longest image, so that a longer one is seen to be too long.
+// A byte more than the longest image, so that a longer one is seen to be too long. cardmap reads its image so too: what the two
+// share is the one line that reads.
 const MOST: u64 = 65_537;
 
 fn main(rt: HostRuntime) -> anyhow::Result<()> {

@@ -3,6 +3,7 @@
 ghost use Rattle.std.specs.Prelude.{◌≡◌};
 ghost use Rattle.text.specs.Hexadecimal.{byte_value, digit_value};
 
+// By hand: std's to_digit answers a u32 of a char, so that the byte would be turned into one and the digit back.
 fn digit(c: u8) -> Option<u8>
     ensures { result ≡ digit_value c }
 {
