@@ -57,10 +57,7 @@ fn run(heap: Global, bytes: &mut [u8], size: BoardLength, count: u64) -> Ran {
         window: Window::RESET,
         memory: Bank::new(bytes, size),
         panel: Script::new(Vec::new(heap), 0xFFFF_FFFF, 0xFF),
-        spent: Cost {
-            cycles: 0,
-            states: 0,
-        },
+        spent: Cost::default(),
     };
     let states = steps(&mut card, count);
     Ran {

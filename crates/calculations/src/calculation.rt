@@ -17,7 +17,7 @@ use arithmetic::multiply::multiply;
 use arithmetic::operation::Operation;
 use arithmetic::{add, logic, port, wide};
 use instructions::group::calculation::{Addend, Arithmetic};
-use machine::outcome::take;
+use machine::outcome::{accumulate, take};
 use machine::state::Machine;
 use memory::Memory;
 use operands::address::along;
@@ -68,14 +68,8 @@ pub fn calculate<M: Memory, P: Panel>(m: &mut Machine<M, P>, form: Arithmetic)
             let byte = m.read_at(Pair::Hl);
             test(&mut m.cpu, byte);
         }
-        Arithmetic::Complement => {
-            let outcome = logic::complement(m.cpu.main.a, m.cpu.main.f);
-            take(&mut m.cpu, Register::A, outcome);
-        }
-        Arithmetic::Negate => {
-            let outcome = add::negate(m.cpu.main.a, m.cpu.main.f);
-            take(&mut m.cpu, Register::A, outcome);
-        }
+        Arithmetic::Complement => accumulate(&mut m.cpu, logic::complement),
+        Arithmetic::Negate => accumulate(&mut m.cpu, add::negate),
         Arithmetic::Multiply(name) => multiply_pair(m, name),
         Arithmetic::AddPair(from) => {
             let with = from.get(&m.cpu);

@@ -11,7 +11,7 @@ use crate::byte_change::{at_hl, behind_index, in_register};
 use arithmetic::flags::Flags;
 use arithmetic::rotate::{Rotate, rld, rrd};
 use instructions::group::rotation::Rotation;
-use machine::outcome::take;
+use machine::outcome::accumulate;
 use machine::state::Machine;
 use memory::Memory;
 use operands::word::Word;
@@ -24,7 +24,10 @@ pub fn rotate<M: Memory, P: Panel>(m: &mut Machine<M, P>, form: Rotation, displa
     ensures { Ends P.make M.memory P.state (rotates form displacement) m.old m.new }
 {
     match form {
-        Rotation::Accumulator(kind) => accumulator(m, kind),
+        Rotation::Accumulator(kind) => accumulate(
+            &mut m.cpu,
+            |a, flags| kind.accumulator(a, flags),
+        ),
         Rotation::Register(kind, register) => in_register(m, kind, register),
         Rotation::Memory(kind) => at_hl(m, kind),
         Rotation::Indexed(kind, name) => behind_index(m, kind, name, displacement),
@@ -39,15 +42,6 @@ pub fn rotate<M: Memory, P: Panel>(m: &mut Machine<M, P>, form: Rotation, displa
             put_digits(m, turned);
         }
     }
-}
-
-// RLCA, RRCA, RLA and RRA
-fn accumulator<M: Memory, P: Panel>(m: &mut Machine<M, P>, kind: Rotate)
-    requires { Below 500 m.old }
-    ensures { Ends P.make M.memory P.state (rotates (form.Accumulator kind) 0) m.old m.new }
-{
-    let outcome = kind.accumulator(m.cpu.main.a, m.cpu.main.f);
-    take(&mut m.cpu, Register::A, outcome);
 }
 
 // Three digits turned through A and the byte at (HL), for RLD and RRD: what A and the byte become, and F.

@@ -35,10 +35,7 @@ impl<M: Memory, P: Panel> Card<M, P> {
                 window: Window::RESET,
                 memory,
                 panel,
-                spent: Cost {
-                    cycles: 0,
-                    states: 0,
-                },
+                spent: Cost::default(),
             },
         }
     }

@@ -61,10 +61,7 @@ pub fn card<M>(memory: M) -> Machine<M, Probe> {
         window: Window::RESET,
         memory,
         panel: silent(),
-        spent: Cost {
-            cycles: 0,
-            states: 0,
-        },
+        spent: Cost::default(),
     }
 }
 

@@ -64,20 +64,16 @@ fn stepped<M: Memory + Drop>(memory: M, vector: &Vector) -> Outcome {
         answer: vector.answer,
         access: Access::Nothing,
     };
-    let nothing = Cost {
-        cycles: 0,
-        states: 0,
-    };
     let mut card = Machine {
         cpu: vector.cpu,
         window: vector.window,
         memory,
         panel,
-        spent: nothing,
+        spent: Cost::default(),
     };
     put_all(&mut card.memory, vector);
     // this panel has no step denied
-    let cost = step(&mut card).unwrap_or(nothing);
+    let cost = step(&mut card).unwrap_or_default();
     let cells = cells(&card.memory, vector);
     let code = code(&card.memory, vector.cpu.pc);
     take_all(&mut card.memory, vector);

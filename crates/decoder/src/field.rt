@@ -38,7 +38,7 @@ impl Fields {
         self.y / 2
     }
 
-    // Bit 3.
+    // Bit 3. Where it chooses one of two forms, the page has a match of two arms: one function handed both forms would be no shorter.
     pub(crate) fn q(self) -> u8
         ensures { result ≡ of.q self.y }
     {

@@ -56,10 +56,7 @@ fn turn<M: Memory, P: Panel>(m: &mut Machine<M, P>, line: Option<Line>)
 fn take<M: Memory, P: Panel>(m: &mut Machine<M, P>, line: Option<Line>) -> Cost
     ensures { seen M.memory P.state (Ok result) m.new ≡ took_line P.make line (model M.memory P.state m.old) }
 {
-    m.spent = Cost {
-        cycles: 0,
-        states: 0,
-    };
+    m.spent = Cost::default();
     m.cpu.ei = false;
     turn(m, line);
     m.panel.tell(m.spent.states);

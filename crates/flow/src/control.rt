@@ -6,11 +6,10 @@ ghost use Rattle.processor.specs.Control.{controls};
 use arithmetic::carry;
 use arithmetic::decimal::adjust;
 use instructions::group::control::Control;
-use machine::outcome::take;
+use machine::outcome::accumulate;
 use machine::state::Machine;
 use memory::Memory;
 use panel::Panel;
-use registers::operand::Register;
 use registers::registers::Mode;
 
 // What the processor does to itself.
@@ -20,43 +19,18 @@ pub fn control<M: Memory, P: Panel>(m: &mut Machine<M, P>, form: Control)
 {
     match form {
         Control::Nothing => {}
-        Control::DecimalAdjust => decimal_adjust(m),
-        Control::SetCarry => set_carry(m),
-        Control::ComplementCarry => complement_carry(m),
+        Control::DecimalAdjust => {
+            m.internal(1);
+            accumulate(&mut m.cpu, adjust);
+        }
+        Control::SetCarry => accumulate(&mut m.cpu, carry::set),
+        Control::ComplementCarry => accumulate(&mut m.cpu, carry::complement),
         Control::Halt => m.cpu.mode = Mode::Halted,
         Control::Sleep => sleep(m),
         Control::DisableInterrupts => disable(m),
         Control::EnableInterrupts => enable(m),
         Control::Mode(mode) => m.cpu.im = mode,
     }
-}
-
-// DAA
-fn decimal_adjust<M: Memory, P: Panel>(m: &mut Machine<M, P>)
-    requires { Below 500 m.old }
-    ensures { Ends P.make M.memory P.state (controls form.DecimalAdjust) m.old m.new }
-{
-    m.internal(1);
-    let outcome = adjust(m.cpu.main.a, m.cpu.main.f);
-    take(&mut m.cpu, Register::A, outcome);
-}
-
-// SCF
-fn set_carry<M: Memory, P: Panel>(m: &mut Machine<M, P>)
-    requires { Below 500 m.old }
-    ensures { Ends P.make M.memory P.state (controls form.SetCarry) m.old m.new }
-{
-    let outcome = carry::set(m.cpu.main.a, m.cpu.main.f);
-    take(&mut m.cpu, Register::A, outcome);
-}
-
-// CCF
-fn complement_carry<M: Memory, P: Panel>(m: &mut Machine<M, P>)
-    requires { Below 500 m.old }
-    ensures { Ends P.make M.memory P.state (controls form.ComplementCarry) m.old m.new }
-{
-    let outcome = carry::complement(m.cpu.main.a, m.cpu.main.f);
-    take(&mut m.cpu, Register::A, outcome);
 }
 
 // SLP

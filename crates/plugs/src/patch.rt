@@ -20,6 +20,7 @@ impl<M: Memory> Memory for Plug<PatchEntry, M> {
     }
 
     fn write(&mut self, at: u32, byte: u8) -> Result<(), Denial> {
+        // beyond memory it goes on to the memory below, which denies it
         if at < BEYOND && self.entries.find(at).is_some() {
             return Ok(());
         }

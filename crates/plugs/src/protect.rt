@@ -16,6 +16,7 @@ impl<M: Memory> Memory for Plug<Page, M> {
     }
 
     fn write(&mut self, at: u32, byte: u8) -> Result<(), Denial> {
+        // beyond memory it goes on to the memory below, which denies it
         if at < BEYOND && self.entries.find(at / 4096).is_some() {
             return Ok(());
         }
