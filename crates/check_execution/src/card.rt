@@ -80,6 +80,7 @@ pub fn put<M: Memory>(m: &mut Machine<M, Probe>, at: u16, bytes: &[u8]) -> Resul
     Ok(())
 }
 
+// The address is counted here too.
 pub fn has<M: Memory>(
     rt: &impl Abort,
     m: &Machine<M, Probe>,

@@ -13,6 +13,7 @@ use std::alloc::Global;
 use std::process::Abort;
 use std::test::Fail;
 
+// What is given and what then happens are enums and no closures, since a list of them is the text of a test.
 #[derive(Clone, Copy)]
 pub enum Given {
     Asks(Line),

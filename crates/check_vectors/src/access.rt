@@ -22,7 +22,7 @@ impl Access {
         }
     }
 
-    // 0 nothing, 1 a read, 2 a write; the port; the byte.
+    // 0 nothing, 1 a read, 2 a write; the port; the byte. Numbers, since a vector is a line of them, and a difference is told as one.
     pub fn numbers(self) -> (u32, u32, u32) {
         match self {
             Access::Nothing => (0, 0, 0),

@@ -31,6 +31,7 @@ pub const OUTSIDE: [&str; 16] = [
     "cell 3", "code 1", "code 2", "code 3", "code 4", "astray",
 ];
 
+// Modes as numbers, as a vector has them.
 fn interrupt_mode(mode: InterruptMode) -> u32 {
     match mode {
         InterruptMode::Zero => 0,
