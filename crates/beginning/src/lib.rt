@@ -9,7 +9,8 @@ use decoder::{cb_page, ed_page, indexed_cb_page, indexed_page, main_page};
 use instructions::instruction::Instruction;
 use registers::operand::Index;
 
-// No Result of an instruction: an undefined byte is an answer too, with a length as an instruction has one.
+// No Result of an instruction: an undefined byte is an answer too, with a length as an instruction has one. Nor an Option of the other
+// three: that bytes end too early says something of them, and an instruction may still begin so.
 #[derive(Clone, Copy)]
 pub enum Beginning {
     Instruction(Instruction),

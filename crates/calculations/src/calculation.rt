@@ -46,7 +46,7 @@ pub fn calculate<M: Memory, P: Panel>(m: &mut Machine<M, P>, form: Arithmetic)
             operate(&mut m.cpu, operation, byte);
         }
         Arithmetic::Indexed(operation, from) => {
-            let byte = indexed_byte(m, from);
+            let byte = m.read_indexed(from);
             operate(&mut m.cpu, operation, byte);
         }
         Arithmetic::IncrementRegister(name) => in_register(m, Increment, name),
@@ -128,16 +128,6 @@ fn register_byte<M: Memory, P: Panel>(m: &mut Machine<M, P>, from: Register) -> 
 {
     m.internal(1);
     byte(&m.cpu, from)
-}
-
-// The byte at (IX+d).
-fn indexed_byte<M: Memory, P: Panel>(m: &mut Machine<M, P>, from: Index) -> u8
-    requires { Below 500 m.old }
-    ensures { Gives {n = 0} P.make M.memory P.state (λ p. parts.indexed from p (λ a q. tree.internal 2 (tree.read a (λ b. got b q)))) m.old result m.new }
-{
-    let at = m.indexed(from);
-    m.internal(2);
-    m.read(at)
 }
 
 // MLT ww

@@ -17,8 +17,8 @@ pub enum First {
     Prefix(Page),
 }
 
-// A byte behind DDH or FDH. CBH leads on: a displacement and one more opcode byte follow. Undefined stands among the three, since
-// an Option of the other two would put Some round each answer of the page, where no `?` would take one off.
+// A byte behind DDH or FDH. CBH leads on: a displacement and one more opcode byte follow. Undefined stands among the three and is
+// no Option's None, since whoever asks goes on differently with each of the three, so that no `?` would serve.
 #[derive(Clone, Copy)]
 pub enum Second {
     Instruction(Instruction),

@@ -47,15 +47,11 @@ fn int0<M: Memory, P: Panel>(m: &mut Machine<M, P>, byte: u8)
             m.acknowledge(Line::Int0, 5);
             enter(m, 0x38);
         }
-        InterruptMode::Two => {
-            m.acknowledge(Line::Int0, 6);
-            let at = (u16::from(m.cpu.i) * 256).wrapping_add(u16::from(byte));
-            vectored(m, at);
-        }
+        InterruptMode::Two => by_table(m, Line::Int0, u16::from(byte)),
     }
 }
 
-// INT1 and INT2, by the table at I x 256; IL gives the place in it.
+// By the table at I x 256: of INT0 in mode 2 the panel's byte gives the place in it, of INT1 and INT2 it is IL.
 fn by_table<M: Memory, P: Panel>(m: &mut Machine<M, P>, name: Line, place: u16)
     requires { Below 200 m.old }
     ensures { Ends P.make M.memory P.state (of.by_table name place) m.old m.new }

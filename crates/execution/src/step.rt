@@ -40,6 +40,7 @@ fn turn<M: Memory, P: Panel>(m: &mut Machine<M, P>, line: Option<Line>)
         (Mode::Running, None) => execute(m),
         (Mode::Running, Some(line)) => serve(m, line),
         (Mode::Halted, None) => m.internal(3),
+        // an arm each for halted and asleep: one pattern for both, tried, is not covered by the borrow check
         (mode @ Mode::Halted, Some(line)) => {
             *mode = Mode::Running;
             serve(m, line);

@@ -54,7 +54,7 @@ fn always<M: Memory, P: Panel>(m: &mut Machine<M, P>)
     enter(m, to);
 }
 
-// CALL f,mn: not taken, it passes its high byte unread.
+// CALL f,mn: not taken, it passes its high byte unread. Why it does not share that with JP f,mn stands there.
 fn call_if<M: Memory, P: Panel>(m: &mut Machine<M, P>, condition: Condition)
     requires { Below 500 m.old }
     ensures { Ends P.make M.memory P.state (calls (form.If condition)) m.old m.new }
@@ -87,7 +87,7 @@ fn return_from_nmi<M: Memory, P: Panel>(m: &mut Machine<M, P>)
     requires { Below 500 m.old }
     ensures { Ends P.make M.memory P.state (calls form.ReturnFromNmi) m.old m.new }
 {
-    m.cpu.pc = m.pop();
+    back(m);
     m.cpu.ief1 = m.cpu.ief2;
 }
 

@@ -84,8 +84,7 @@ fn register_memory<M: Memory, P: Panel>(m: &mut Machine<M, P>, to: Register)
     requires { Below 500 m.old }
     ensures { Ends P.make M.memory P.state (loads (form.RegisterMemory to)) m.old m.new }
 {
-    let at = Pair::Hl.get(&m.cpu);
-    let value = m.read(at);
+    let value = m.read_at(Pair::Hl);
     set_byte(&mut m.cpu, to, value);
 }
 
@@ -94,9 +93,7 @@ fn register_indexed<M: Memory, P: Panel>(m: &mut Machine<M, P>, to: Register, fr
     requires { Below 500 m.old }
     ensures { Ends P.make M.memory P.state (loads (form.RegisterIndexed to from)) m.old m.new }
 {
-    let at = m.indexed(from);
-    m.internal(2);
-    let value = m.read(at);
+    let value = m.read_indexed(from);
     set_byte(&mut m.cpu, to, value);
 }
 

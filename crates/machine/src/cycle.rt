@@ -36,6 +36,7 @@ impl<M: Memory, P: Panel> Machine<M, P> {
         ensures { Ends {n = 1} P.make M.memory P.state (λ p. tree.write at byte (tree.done p)) self.old self.new }
     {
         self.internal(3);
+        // a translated address is never denied, and what takes no writes drops the byte
         let _ = self.memory.write(self.window.physical(at), byte);
     }
 

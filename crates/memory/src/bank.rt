@@ -11,6 +11,7 @@ use denial::Denial;
 #[derive(Drop)]
 pub struct Bank<'a> {
     bytes: &'a mut [u8],
+    // beside the bytes, since the bank may end before they do, and all of them go back to the lender
     length: usize,
 }
 

@@ -13,6 +13,7 @@ use denial::Denial;
 pub struct RomRam<'a> {
     rom: &'a [u8],
     ram: &'a mut [u8],
+    // beside the bytes, since the board may end before they do, and all of them go back to the lender
     length: usize,
 }
 

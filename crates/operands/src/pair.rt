@@ -70,7 +70,7 @@ impl Word for StackPair {
     }
 }
 
-// No `From<Pointer> for Pair`: both types are another crate's.
+// A pointer is read and never set, so that it is no Word; turned into a Pair, it would take two calls to read.
 pub fn pointer(cpu: &Registers, pointer: Pointer) -> u16
     ensures { result ≡ pointer_of pointer cpu.now }
 {

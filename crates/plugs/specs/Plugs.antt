@@ -1,5 +1,5 @@
 -- What memory a plug makes of the one below it. A plug looks up what it alters by a key. Assumes nothing.
-use Rattle.std.specs.Prelude.{ℕ, ◌/◌, Bool, false, cond, List, is_some, Some, None, Ok, Err, Option, Result, nat_lt}
+use Rattle.std.specs.Prelude.{◌≡◌, ℕ, ◌/◌, Bool, false, cond, List, is_some, Some, None, Ok, Err, Option, Result, nat_lt}
 use Rattle.denial.specs.Denials.{Told, told}
 use Rattle.memory.specs.Memory.{Mem, is_address}
 use Rattle.plugs.specs.Entries.{latest, plug_denial}
@@ -67,3 +67,10 @@ plugged (Some denied) plug below = Err (denied, below)
 abbrev pub made : {P M : Type 0} → (P → Mem) → Result P (Unmade M) → Result Mem (Told × M)
 made mem (Ok p) = Ok (mem p)
 made mem (Err u) = Err (told u.denial, u.given)
+
+-- What the making of a plug promises over the entries of a kind is what that kind's words say.
+pub record MakingLaws : Type 0 where
+  pub protects : (pages : List Page) (m : Mem) → protected (latest page_key pages) m ≡ protecting pages m
+  pub protect_denies : (pages : List Page) → plug_denial page_key is_page pages ≡ protect_denial pages
+  pub patches : (entries : List PatchEntry) (m : Mem) → patched (latest patch_key entries) m ≡ patching entries m
+  pub patch_denies : (entries : List PatchEntry) → plug_denial patch_key is_patch entries ≡ patch_denial entries

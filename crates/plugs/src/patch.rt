@@ -20,7 +20,8 @@ impl<M: Memory> Memory for Plug<PatchEntry, M> {
     }
 
     fn write(&mut self, at: u32, byte: u8) -> Result<(), Denial> {
-        // beyond memory it goes on to the memory below, which denies it
+        // Beyond memory it goes on to the memory below, which denies it. The protect plug has the same in its own words, by the page:
+        // one method for both would first have to say what entries make of a write.
         if at < BEYOND && self.entries.find(at).is_some() {
             return Ok(());
         }

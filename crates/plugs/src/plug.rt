@@ -1,6 +1,6 @@
 // A plug of either kind: entries that name what it alters, over any memory.
 ghost use Rattle.plugs.specs.Entries.{latest, plug_denial};
-ghost use Rattle.plugs.specs.Plugs.{made, plug_memory, plugged};
+ghost use Rattle.plugs.specs.Plugs.{MakingLaws, made, plug_memory, plugged};
 ghost use Rattle.std.specs.Prelude.{◌≡◌};
 
 use crate::entry::Entry;
@@ -37,3 +37,8 @@ impl<E: Entry, M: Memory> Plug<E, M> {
         below
     }
 }
+
+// Names what a plug of either kind is by its own words, so that it is proved; it does nothing.
+pub fn making_laws()
+    ensures { MakingLaws }
+{}

@@ -64,7 +64,8 @@ fn counted(cpu: &mut Registers, way: Direction, outcome: (u8, Flags))
     take(cpu, Register::B, outcome);
 }
 
-// C goes on too in the OTIM family. Words go on by operands::address::along, which wraps at 65,536 where a byte wraps at 256.
+// C goes on too in the OTIM family. By the byte, and not by operands::address::along, since C would be widened for it and what it
+// answers taken modulo 256 and cast.
 fn next_port(way: Direction, c: u8) -> u8
     ensures { result ≡ of.along_byte way c }
 {

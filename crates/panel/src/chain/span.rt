@@ -1,4 +1,5 @@
-// The two ends of a chain: the numbers of its first and last record, both 0 for an empty chain, as a table has it.
+// The two ends of a chain: the numbers of its first and last record, both 0 for an empty chain. They are no
+// Option, since 0 is what `Chain::first` then answers and what a record that ends its chain names.
 #[derive(Clone, Copy, Debug)]
 pub struct Span {
     pub(super) first: u16,

@@ -22,7 +22,7 @@ impl Chain {
     pub fn record(&self, number: u16) -> Option<Record>
         ensures { result ≡ record_of (chain_state self.now) number }
     {
-        if number == 0 || number > self.used {
+        if !(1..=self.used).contains(&number) {
             return None;
         }
         Some(self.table[number as usize])
