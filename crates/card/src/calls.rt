@@ -72,7 +72,7 @@ impl<M: Memory, P: Panel> Card<M, P> {
             states: 0,
         };
         // each step takes states, so the budget is spent after no more steps than it has states
-        while ran.steps < budget {
+        for _ in 0..budget {
             match self.step() {
                 Ok(cost) => ran.count(cost),
                 Err(fault) => {

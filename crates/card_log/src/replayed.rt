@@ -1,5 +1,6 @@
-// What the replay of a log hands back. The lines served and whether memory ran out are each asked for, so both are fields, and
-// a replay that memory cut short is no error: its answers so far stand.
+// What the replay of a log hands back. docs/CARD.md asks for the answers of each card, the lines served and whether memory ran
+// out, so `answers`, `others`, `served` and `complete` are fields; and a replay that memory cut short is no error: its answers
+// so far stand.
 use answers::answer::Answer;
 use card::card::Card;
 

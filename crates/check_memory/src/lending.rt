@@ -32,7 +32,7 @@ fn the_loan_comes_back_with_what_the_board_held(rt: HostRuntime) -> Result<(), F
     let mut bytes = [1, 2, 3];
     let size = BoardLength::of_bank(&bytes)?;
     let mut bank = Bank::new(&mut bytes, size);
-    let _ = bank.write(0, 7);
+    bank.write(0, 7)?;
     let lent = bank.into_bytes();
     assert!(rt; lent.len() == 3);
     assert_eq!(rt; lent[0], 7);
@@ -45,7 +45,7 @@ fn the_lender_has_the_bytes_back_after_the_last_use(rt: HostRuntime) -> Result<(
     let mut bytes = [1, 2, 3];
     let size = BoardLength::of_bank(&bytes)?;
     let mut bank = Bank::new(&mut bytes, size);
-    let _ = bank.write(1, 7);
+    bank.write(1, 7)?;
     bytes[0] = bytes[1];
     assert_eq!(rt; bytes, [7, 7, 3]);
     Ok(())

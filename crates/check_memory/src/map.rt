@@ -19,10 +19,10 @@ fn arguments(heap: Global, words: &[&str]) -> Result<Vec<String>, AllocError> {
 
 // The line printed in place of a listing of a one-byte image.
 fn refused(heap: Global, words: &[&str]) -> Result<String, Fail> {
-    match listing(heap, &mut [0], &arguments(heap, words)?) {
-        Ok(_) => Err(Fail::new("there is a listing")),
-        Err(reason) => Ok(reason.to_string(heap)?),
-    }
+    let Err(reason) = listing(heap, &mut [0], &arguments(heap, words)?) else {
+        return Err(Fail::new("there is a listing"));
+    };
+    Ok(reason.to_string(heap)?)
 }
 
 #[test]

@@ -26,7 +26,7 @@ fn denial_of<P: Drop, M: Memory + Drop>(
     Some(unmade.denial)
 }
 
-// Not one function over both kinds of entry: for a kind that is not known, the size of a plug over a bank has no bound.
+// tried: one function over both kinds of entry; for a kind that is not known, the size of a plug over a bank has no bound.
 fn protect_denied(rt: &impl Abort, pages: &[Page]) -> Result<Option<Denial>, Fail> {
     let mut bytes = BELOW;
     let size = BoardLength::of_bank(&bytes)?;

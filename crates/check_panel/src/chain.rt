@@ -71,13 +71,10 @@ fn asks_for(rt: &impl Abort, panel: &Chain, expected: [bool; 4]) {
     }
 }
 
-// The records of the table that a panel hands back, one by one.
+// The records of the table that a panel hands back.
 fn handed_back(rt: &impl Abort, panel: Chain, expected: &[Record]) {
     let table = panel.into_table();
-    assert_eq!(rt; table.len(), expected.len());
-    for (was, is) in expected.iter().zip(table.iter()) {
-        assert_eq!(rt; *is, *was);
-    }
+    assert_eq!(rt; table.as_slice(), expected);
 }
 
 #[test]

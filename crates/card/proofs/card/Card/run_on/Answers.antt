@@ -9,29 +9,29 @@ use Rattle.card.proofs.card.Card.run_on.Goals as goal
 
 pub returns-in-Err : goal.returns-in-Err
 returns-in-Err g c =
-    denied g.P.Panel.make c.args.budget c.loop-ran.ran.steps _ _ _ _ c.loop-ran-test.true c.in-Err.ensures.turn ∙ c.loop-ran.invariant.so_far
+    denied g.P.Panel.make c.args.budget c.loop.ran.steps _ _ _ _ (omega arith) c.in-Err.ensures.turn ∙ c.loop.invariant.so_far
 
 pub returns-then-rests : goal.returns-then-rests
 returns-then-rests g c =
     ap (λ (r : Ran). came g.M.Memory.memory g.P.Panel.state (record r { stop = Halted }) c.step.new.self) c.count.ensures
-    ∙ (rested g.P.Panel.make c.args.budget c.loop-ran.ran.steps (record { cycles = c.loop-ran.ran.cycles; states = c.loop-ran.ran.states }) _ _ (record { cycles = c.in-Ok.cost.cycles; states = c.in-Ok.cost.states }) c.loop-ran-test.true c.in-Ok.ensures.turn c.if-rests.ensures ∙ c.loop-ran.invariant.so_far)
+    ∙ (rested g.P.Panel.make c.args.budget c.loop.ran.steps (record { cycles = c.loop.ran.cycles; states = c.loop.ran.states }) _ _ (record { cycles = c.in-Ok.cost.cycles; states = c.in-Ok.cost.states }) (omega arith) c.in-Ok.ensures.turn c.if-rests.ensures ∙ c.loop.invariant.so_far)
 
 pub returns-then-ran-budget : goal.returns-then-ran-budget
 returns-then-ran-budget g c =
-    let was = rw c.loop-ran.invariant.stop at c.count.ensures in
-    let over : true ≡ leb c.args.budget (c.loop-ran.ran.states + c.in-Ok.cost.states) = grind (arith, nat_tests, ap (λ (r : Ran). r.states) c.count.ensures) in
+    let was = rw c.loop.invariant.stop at c.count.ensures in
+    let over : true ≡ leb c.args.budget (c.loop.ran.states + c.in-Ok.cost.states) = grind (arith, nat_tests, ap (λ (r : Ran). r.states) c.count.ensures) in
     ap (λ (r : Ran). came g.M.Memory.memory g.P.Panel.state r c.step.new.self) was
-    ∙ (spends g.P.Panel.make c.args.budget c.loop-ran.ran.steps (record { cycles = c.loop-ran.ran.cycles; states = c.loop-ran.ran.states }) _ _ (record { cycles = c.in-Ok.cost.cycles; states = c.in-Ok.cost.states }) c.loop-ran-test.true c.in-Ok.ensures.turn c.if-rests.ensures over ∙ c.loop-ran.invariant.so_far)
+    ∙ (spends g.P.Panel.make c.args.budget c.loop.ran.steps (record { cycles = c.loop.ran.cycles; states = c.loop.ran.states }) _ _ (record { cycles = c.in-Ok.cost.cycles; states = c.in-Ok.cost.states }) (omega arith) c.in-Ok.ensures.turn c.if-rests.ensures over ∙ c.loop.invariant.so_far)
 
-pub loop-ran-preserved : goal.loop-ran-preserved
-loop-ran-preserved g c =
-    let under : false ≡ leb c.args.budget (c.loop-ran.ran.states + c.in-Ok.cost.states) = grind (arith, nat_tests, ap (λ (r : Ran). r.states) c.count.ensures) in
+pub loop-preserved : goal.loop-preserved
+loop-preserved g c =
+    let under : false ≡ leb c.args.budget (c.loop.ran.states + c.in-Ok.cost.states) = grind (arith, nat_tests, ap (λ (r : Ran). r.states) c.count.ensures) in
     record {
       so_far =
           ap (λ (r : Ran). came_to (run_on g.P.Panel.make c.args.budget (c.args.budget - r.steps) r.steps (record { cycles = r.cycles; states = r.states }) (model g.M.Memory.memory g.P.Panel.state c.step.new.self))) c.count.ensures
-          ∙ (again g.P.Panel.make c.args.budget c.loop-ran.ran.steps (record { cycles = c.loop-ran.ran.cycles; states = c.loop-ran.ran.states }) _ _ (record { cycles = c.in-Ok.cost.cycles; states = c.in-Ok.cost.states }) c.loop-ran-test.true c.in-Ok.ensures.turn c.if-rests.ensures under ∙ c.loop-ran.invariant.so_far);
-      within = rw c.count.ensures (omega arith);
+          ∙ (again g.P.Panel.make c.args.budget c.loop.ran.steps (record { cycles = c.loop.ran.cycles; states = c.loop.ran.states }) _ _ (record { cycles = c.in-Ok.cost.cycles; states = c.in-Ok.cost.states }) (omega arith) c.in-Ok.ensures.turn c.if-rests.ensures under ∙ c.loop.invariant.so_far);
+      turns = rw c.count.ensures (omega arith);
       cycles = rw c.count.ensures (omega arith);
       states = rw c.count.ensures (omega arith);
-      stop = rw c.count.ensures c.loop-ran.invariant.stop;
+      stop = rw c.count.ensures c.loop.invariant.stop;
     }

@@ -4,16 +4,13 @@ use Rattle.card.specs.Cards.{came_to, model}
 use Rattle.card.specs.declared.ran.Stop.TheVariants.{Spent}
 use Rattle.card.proofs.card.Card.run_on.Given as goal
 
-abbrev pub invariant-loop-ran : goal.invariant-loop-ran
-invariant-loop-ran g l = record {
+abbrev pub invariant-loop : goal.invariant-loop
+invariant-loop g l = record {
   so_far :
       came_to (run_on g.P.Panel.make l.budget (l.budget - l.ran.steps) l.ran.steps (record { cycles = l.ran.cycles; states = l.ran.states }) (model g.M.Memory.memory g.P.Panel.state l.self))
       ≡ came_to (run g.P.Panel.make l.budget (model g.M.Memory.memory g.P.Panel.state l.initial.self));
-  within : l.ran.steps ≤ l.budget;
+  turns : l.ran.steps ≡ l.counter;
   cycles : l.ran.cycles ≤ l.ran.steps * 4294967296;
   states : l.ran.states ≤ l.ran.steps * 4294967296;
   stop : l.ran.stop ≡ Spent;
 }
-
-abbrev pub decreases-loop-ran : goal.decreases-loop-ran
-decreases-loop-ran g l = l.budget - l.ran.steps
