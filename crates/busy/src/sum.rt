@@ -4,6 +4,7 @@ use registers::registers::Registers;
 // S, Z, P/V, N and C. Bits 5 and 3 of F, and H behind a 16-bit sum, are not alike on the two processors.
 const ALIKE: u8 = 0xC7;
 
+// Each program stands alone, as its C counterpart in bench/ does: the same step stands in check_arithmetic/src/sum.rt.
 fn mixed(sum: u32, byte: u8) -> u32 {
     let turned = sum.rotate_left(5) ^ u32::from(byte);
     turned.wrapping_mul(0x9E37_79B1)

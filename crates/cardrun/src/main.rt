@@ -5,10 +5,10 @@ use anyhow::anyhow;
 use plotting::image::plot;
 use std::io::Read;
 
-// A byte more than the longest image, so that a longer one is seen to be too long. cardmap reads its image so too: what the two
-// share is the one line that reads.
+// A byte more than the longest image, so that a longer one is seen to be too long.
 const MOST: u64 = 65_537;
 
+// cardmap reads and prints alike, and each main is a dozen lines: one for both would need a crate that takes the handle.
 fn main(rt: HostRuntime) -> anyhow::Result<()> {
     let mut image = Vec::new(rt.alloc());
     rt.stdin().take(MOST).read_to_end(&mut image)?;

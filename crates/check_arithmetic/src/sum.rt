@@ -8,6 +8,7 @@ pub struct Sum {
 }
 
 impl Sum {
+    // Each program stands alone, as its C counterpart in bench/ does: the same step stands in busy/src/sum.rt.
     fn with(self, byte: u8) -> Sum {
         let mixed = self.value.rotate_left(5) ^ u32::from(byte);
         Sum {

@@ -38,12 +38,7 @@ pub fn ready() -> Registers {
 // A panel that asks for nothing, and drops what is acknowledged.
 pub fn silent() -> Probe {
     Probe {
-        asked: Asked {
-            nmi: false,
-            int0: false,
-            int1: false,
-            int2: false,
-        },
+        asked: Asked::default(),
         keeps: false,
         byte: 0x10,
         full: false,
@@ -70,27 +65,24 @@ pub fn banked(bytes: &mut [u8]) -> Result<Machine<Bank<'_>, Probe>, Fail> {
     Ok(card(Bank::new(bytes, size)))
 }
 
-// The address is counted here, since it wraps at the end of the logical space.
+// Addresses wrap at the end of the logical space.
 pub fn put<M: Memory>(m: &mut Machine<M, Probe>, at: u16, bytes: &[u8]) -> Result<(), Fail> {
-    let mut at = at;
-    for byte in bytes {
+    for (i, byte) in bytes.iter().enumerate() {
+        let at = at.wrapping_add((i % 65_536) as u16);
         m.memory.write(m.window.physical(at), *byte)?;
-        at = at.wrapping_add(1);
     }
     Ok(())
 }
 
-// The address is counted here too.
 pub fn has<M: Memory>(
     rt: &impl Abort,
     m: &Machine<M, Probe>,
     at: u16,
     bytes: &[u8],
 ) -> Result<(), Fail> {
-    let mut at = at;
-    for byte in bytes {
+    for (i, byte) in bytes.iter().enumerate() {
+        let at = at.wrapping_add((i % 65_536) as u16);
         assert_eq!(rt; m.memory.read(m.window.physical(at)), Ok(*byte));
-        at = at.wrapping_add(1);
     }
     Ok(())
 }
@@ -101,10 +93,10 @@ pub fn stepped<M: Memory>(m: &mut Machine<M, Probe>) -> Result<Cost, Fault> {
 }
 
 // A step costs so much, and the panel is told its states.
-pub fn takes<M: Memory>(rt: &impl Abort, m: &mut Machine<M, Probe>, cycles: u32, states: u32) {
+pub fn takes<M: Memory>(rt: &impl Abort, m: &mut Machine<M, Probe>, cost: Cost) {
     let told = m.panel.told;
-    assert_eq!(rt; stepped(m), Ok(Cost { cycles, states }));
-    assert_eq!(rt; m.panel.told, told.saturating_add(states));
+    assert_eq!(rt; stepped(m), Ok(cost));
+    assert_eq!(rt; m.panel.told, told.saturating_add(cost.states));
 }
 
 // The flip-flops.
@@ -122,12 +114,12 @@ pub fn enables<M>(
 pub fn goes_on<M: Memory>(
     rt: &impl Abort,
     m: &mut Machine<M, Probe>,
-    cost: (u32, u32),
+    cost: Cost,
     pc: u16,
     mode: Mode,
 ) -> Result<(), Fail> {
     m.panel.acknowledged = None;
-    takes(rt, m, cost.0, cost.1);
+    takes(rt, m, cost);
     assert_eq!(rt; (m.cpu.pc, m.cpu.mode), (pc, mode));
     assert_eq!(rt; m.panel.acknowledged, None);
     Ok(())
@@ -150,11 +142,11 @@ pub fn serves<M: Memory>(
     rt: &impl Abort,
     m: &mut Machine<M, Probe>,
     line: Line,
-    cost: (u32, u32),
+    cost: Cost,
     pc: u16,
 ) -> Result<(), Fail> {
     let before = m.cpu;
-    takes(rt, m, cost.0, cost.1);
+    takes(rt, m, cost);
     entered(rt, m, before, pc)?;
     assert_eq!(rt; m.panel.acknowledged, Some(line));
     enables(rt, m, false, line == Line::Nmi && before.ief1)

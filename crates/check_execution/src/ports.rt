@@ -2,6 +2,7 @@
 use crate::card::*;
 use crate::probe::Probe;
 use crate::scene::*;
+use machine::cost::Cost;
 use machine::state::Machine;
 use memory::Memory;
 use panel::sent::Sent;
@@ -26,10 +27,13 @@ fn a_is_the_upper_half(rt: HostRuntime) -> Result<(), Fail> {
         &[Given::A(0x01), Given::Shows(BASES)],
         &[
             Then::Goes(4, 10, 0x1236, Mode::Running),
-            Then::Sees(Seen::Sent(0x0138, 0x01)),
+            Then::Sees(Seen::Sent(Some(Sent {
+                port: 0x0138,
+                byte: 0x01,
+            }))),
             Then::Sees(Seen::Cbr(0x7C)),
             Then::Goes(3, 9, 0x1238, Mode::Running),
-            Then::Sees(Seen::Read(0x0138)),
+            Then::Sees(Seen::Read(Some(0x0138))),
             Then::Sees(Seen::A(0x99)),
         ],
     )
@@ -49,8 +53,8 @@ fn with_a_zero_the_port_is_cbr(rt: HostRuntime) -> Result<(), Fail> {
             Then::Goes(2, 4, 0x1237, Mode::Running),
             Then::Goes(4, 10, 0x1239, Mode::Running),
             Then::Sees(Seen::Cbr(0x00)),
-            Then::Sees(Seen::Unsent),
-            Then::Sees(Seen::Unread),
+            Then::Sees(Seen::Sent(None)),
+            Then::Sees(Seen::Read(None)),
         ],
     )
 }
@@ -66,10 +70,10 @@ fn zero_is_the_upper_half(rt: HostRuntime) -> Result<(), Fail> {
         &[
             Then::Goes(5, 13, 0x1237, Mode::Running),
             Then::Sees(Seen::Cbr(0x41)),
-            Then::Sees(Seen::Unsent),
+            Then::Sees(Seen::Sent(None)),
             Then::Goes(4, 12, 0x123A, Mode::Running),
             Then::Sees(Seen::A(0x41)),
-            Then::Sees(Seen::Unread),
+            Then::Sees(Seen::Read(None)),
         ],
     )
 }
@@ -85,12 +89,18 @@ fn icr_moves_the_ports(rt: HostRuntime) -> Result<(), Fail> {
         &[
             Then::Goes(5, 13, 0x1237, Mode::Running),
             Then::Sees(Seen::Icr(0x5F)),
-            Then::Sees(Seen::Unsent),
+            Then::Sees(Seen::Sent(None)),
             Then::Goes(5, 13, 0x123A, Mode::Running),
-            Then::Sees(Seen::Sent(0x0038, 0x40)),
+            Then::Sees(Seen::Sent(Some(Sent {
+                port: 0x0038,
+                byte: 0x40,
+            }))),
             Then::Sees(Seen::Cbr(0x7C)),
             Then::Goes(5, 13, 0x123D, Mode::Running),
-            Then::Sees(Seen::Sent(0x0038, 0x40)),
+            Then::Sees(Seen::Sent(Some(Sent {
+                port: 0x0038,
+                byte: 0x40,
+            }))),
             Then::Sees(Seen::Cbr(0x40)),
         ],
     )
@@ -125,8 +135,22 @@ fn reaches<M: Memory>(
     port: u8,
 ) -> Result<(), Fail> {
     ready_at(m, icr, port)?;
-    takes(rt, m, 4, 12);
-    takes(rt, m, 5, 13);
+    takes(
+        rt,
+        m,
+        Cost {
+            cycles: 4,
+            states: 12,
+        },
+    );
+    takes(
+        rt,
+        m,
+        Cost {
+            cycles: 5,
+            states: 13,
+        },
+    );
     if port / 64 == icr / 64 {
         untouched(rt, &m.panel)
     } else {

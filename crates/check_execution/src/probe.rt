@@ -8,7 +8,7 @@ use panel::sent::Sent;
 pub mod as_panel;
 
 // The lines that it asks for.
-#[derive(Clone, Copy, PartialEq, Eq)]
+#[derive(Clone, Copy, PartialEq, Eq, Default)]
 pub struct Asked {
     pub nmi: bool,
     pub int0: bool,

@@ -2,6 +2,7 @@
 use crate::card::*;
 use crate::probe::Probe;
 use denial::Denial;
+use machine::cost::Cost;
 use machine::state::Machine;
 use memory::Memory;
 use panel::Panel;
@@ -69,11 +70,9 @@ pub enum Seen {
     Cbr(u8),
     // two bytes in memory
     Word(u16, u16),
-    // the panel's last write, with its port, and its last read
-    Sent(u16, u8),
-    Unsent,
-    Read(u16),
-    Unread,
+    // the panel's last write, and the port of its last read, if any
+    Sent(Option<Sent>),
+    Read(Option<u16>),
 }
 
 fn give_panel(panel: &mut Probe, given: Given) {
@@ -140,20 +139,12 @@ fn give<M: Memory>(m: &mut Machine<M, Probe>, given: Given) -> Result<(), Fail> 
 
 fn see_panel(rt: &impl Abort, panel: &Probe, seen: Seen) -> Result<(), Fail> {
     match seen {
-        Seen::Sent(port, byte) => {
-            assert_eq!(rt; panel.last_write, Some(Sent { port, byte }));
-            Ok(())
-        },
-        Seen::Unsent => {
-            assert_eq!(rt; panel.last_write, None);
+        Seen::Sent(sent) => {
+            assert_eq!(rt; panel.last_write, sent);
             Ok(())
         },
         Seen::Read(port) => {
-            assert_eq!(rt; panel.last_read, Some(port));
-            Ok(())
-        },
-        Seen::Unread => {
-            assert_eq!(rt; panel.last_read, None);
+            assert_eq!(rt; panel.last_read, port);
             Ok(())
         },
         _ => Ok(()),
@@ -202,8 +193,8 @@ fn see<M: Memory>(rt: &impl Abort, m: &Machine<M, Probe>, seen: Seen) -> Result<
 
 fn follow<M: Memory>(rt: &impl Abort, m: &mut Machine<M, Probe>, then: Then) -> Result<(), Fail> {
     match then {
-        Then::Goes(cycles, states, pc, mode) => goes_on(rt, m, (cycles, states), pc, mode),
-        Then::Serves(line, cycles, states, pc) => serves(rt, m, line, (cycles, states), pc),
+        Then::Goes(cycles, states, pc, mode) => goes_on(rt, m, Cost { cycles, states }, pc, mode),
+        Then::Serves(line, cycles, states, pc) => serves(rt, m, line, Cost { cycles, states }, pc),
         Then::Denies(denial) => denied(rt, m, denial),
         Then::Has(ief1, ief2) => enables(rt, m, ief1, ief2),
         Then::Asks(line) => Ok(m.panel.asked.set(line, true)),

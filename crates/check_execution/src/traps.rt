@@ -1,6 +1,7 @@
 // Every byte of every page of the opcode map: the undefined ones trap, the others do not.
 use crate::card::*;
 use crate::probe::Probe;
+use machine::cost::Cost;
 use machine::state::Machine;
 use memory::Memory;
 use registers::registers::Registers;
@@ -96,8 +97,22 @@ fn traps<M: Memory>(
 ) -> Result<(), Fail> {
     let before = m.cpu;
     match undefined {
-        Undefined::Second => takes(rt, m, 4, 12),
-        Undefined::Third => takes(rt, m, 6, 18),
+        Undefined::Second => takes(
+            rt,
+            m,
+            Cost {
+                cycles: 4,
+                states: 12,
+            },
+        ),
+        Undefined::Third => takes(
+            rt,
+            m,
+            Cost {
+                cycles: 6,
+                states: 18,
+            },
+        ),
     }
     trapped(rt, m, before, undefined)
 }
@@ -154,22 +169,14 @@ fn all<M: Memory, F: Fn(u8) -> Trial>(
 fn second(prefix: u8, byte: u8, defined: bool) -> Trial {
     Trial {
         program: [prefix, byte, 0x00, 0x06],
-        undefined: if defined {
-            None
-        } else {
-            Some(Undefined::Second)
-        },
+        undefined: (!defined).then_some(Undefined::Second),
     }
 }
 
 fn third(prefix: u8, byte: u8, defined: bool) -> Trial {
     Trial {
         program: [prefix, 0xCB, 0x80, byte],
-        undefined: if defined {
-            None
-        } else {
-            Some(Undefined::Third)
-        },
+        undefined: (!defined).then_some(Undefined::Third),
     }
 }
 

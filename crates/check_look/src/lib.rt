@@ -1,4 +1,5 @@
 // How a host looks through another window, and that the card is as it was once the look has ended.
+// Each function is a caller of a look by itself, and its contract says the whole of what a caller gets.
 #![tactic(auto)]
 
 ghost use Rattle.card.specs.Cards.{model, seen};

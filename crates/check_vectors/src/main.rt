@@ -62,7 +62,7 @@ fn tell(rt: &HostRuntime, line: u32, is: &Outcome, must: &Outcome) -> io::Result
 }
 
 // The counts of a whole input.
-#[derive(Clone, Copy)]
+#[derive(Clone, Copy, Default)]
 struct Counts {
     lines: u32,
     z80ex: Tally,
@@ -117,13 +117,7 @@ fn row(rt: &HostRuntime, name: &str, tally: Tally) -> io::Result<()> {
 }
 
 fn run(rt: &HostRuntime, bytes: &mut [u8], size: BoardLength) -> io::Result<()> {
-    let mut counts = Counts {
-        lines: 0,
-        z80ex: Tally::NONE,
-        reading: Tally::NONE,
-        hand: Tally::NONE,
-        malformed: 0,
-    };
+    let mut counts = Counts::default();
     for line in BufReader::new(rt.alloc(), rt.stdin())?.lines(rt.alloc()) {
         let line = line?;
         judge(rt, &mut counts, line.as_bytes(), bytes, size)?;
