@@ -11,6 +11,7 @@ const RESTARTS: [u8; 8] = [0xC7, 0xCF, 0xD7, 0xDF, 0xE7, 0xEF, 0xF7, 0xFF];
 #[test]
 fn no_restart(rt: HostRuntime) -> Result<(), Fail> {
     let others = (0..=255u8).filter(|byte| !RESTARTS.contains(byte));
+    // counted by hand: tried, a filter is no value that can be counted and then gone through
     let mut seen = 0u32;
     for byte in others {
         scene(
