@@ -34,10 +34,8 @@ const EMPTY: Record = Record {
 
 // A chain panel with room for so many writes.
 pub(crate) fn with_room_for(heap: Global, writes: u16) -> Result<Chain, Fail> {
-    match Chain::new(vec![in heap; EMPTY; writes as usize + 1]?) {
-        Ok(panel) => Ok(panel),
-        Err(_) => Err(Fail::new("the table is denied")),
-    }
+    let table = vec![in heap; EMPTY; writes as usize + 1]?;
+    Chain::new(table).map_err(|_| Fail::new("the table is denied"))
 }
 
 // A card over a bank of these bytes.
@@ -92,7 +90,7 @@ pub(crate) fn registers_are<M: Memory, P>(
     card: &Card<M, P>,
     was: (Registers, Window),
 ) {
-    assert!(rt; card.registers() == was);
+    assert_eq!(rt; card.registers(), was);
 }
 
 pub(crate) fn pc_is<M: Memory, P>(rt: &impl Abort, card: &Card<M, P>, pc: u16) {
@@ -100,7 +98,7 @@ pub(crate) fn pc_is<M: Memory, P>(rt: &impl Abort, card: &Card<M, P>, pc: u16) {
     assert_eq!(rt; cpu.pc, pc);
 }
 
-// The answer of a run that no fault stopped.
+// What a run answers.
 pub(crate) fn ran(stop: Stop, steps: u32, cycles: u64, states: u64) -> Ran {
     Ran {
         stop,

@@ -1,6 +1,6 @@
 // Faults: a step that is denied changes nothing, and a run does not count it.
 use crate::cards::{
-    asking, asks_int0, denied_as, holds, over, pc_is, registers_are, runs, with_room_for,
+    asking, asks_int0, denied_as, holds, over, pc_is, ran, registers_are, runs, with_room_for,
 };
 use card::card::Card;
 use card::ran::{Ran, Stop};
@@ -14,12 +14,7 @@ use std::process::Abort;
 use std::test::Fail;
 
 fn faulted(denial: Denial, pc: u16, steps: u32, cycles: u64, states: u64) -> Ran {
-    Ran {
-        stop: Stop::Fault(Fault { denial, pc }),
-        steps,
-        cycles,
-        states,
-    }
+    ran(Stop::Fault(Fault { denial, pc }), steps, cycles, states)
 }
 
 // The step is denied, with PC, and leaves every register and the memory.

@@ -3,7 +3,7 @@ use crate::cards::{over, pc_is, quiet, ran, with_room_for};
 use answers::answer::Answer;
 use answers::call::Call;
 use answers::same::same;
-use card::ran::{Ran, Stop};
+use card::ran::Stop;
 use card_log::replay::replay;
 use denial::{Denial, Fault};
 use machine::cost::Cost;
@@ -60,12 +60,7 @@ const FULL: Fault = Fault {
 };
 
 fn stopped() -> Answer {
-    Answer::Run(Ok(Ran {
-        stop: Stop::Fault(FULL),
-        steps: 0,
-        cycles: 0,
-        states: 0,
-    }))
+    Answer::Run(Ok(ran(Stop::Fault(FULL), 0, 0, 0)))
 }
 
 fn expected_answers(heap: Global) -> Result<Vec<Answer>, Fail> {

@@ -119,10 +119,10 @@ fn base_denied<M: Memory, P>(
     );
     assert_eq!(rt; buffer, [0xAA, 0xBB]);
     registers_are(rt, card, was);
-    match LookWindow::new(window) {
-        Ok(_) => Err(Fail::new("the window is accepted")),
-        Err(denial) => denied_as(rt, denial, 7, Layer::Card),
-    }
+    let Err(denial) = LookWindow::new(window) else {
+        return Err(Fail::new("the window is accepted"));
+    };
+    denied_as(rt, denial, 7, Layer::Card)
 }
 
 #[test]

@@ -43,16 +43,15 @@ fn lists(
     heap: Global,
     ran: Ran,
     cpu: Registers,
+    window: Window,
     panel: &Chain,
     expected: &str,
 ) -> Result<(), Fail> {
-    match listing(heap, ran, cpu, Window::RESET, panel) {
-        Ok(text) => {
-            assert_eq!(rt; text.as_str(), expected);
-            Ok(())
-        },
-        Err(_) => Err(Fail::new("there is no listing")),
-    }
+    let Ok(text) = listing(heap, ran, cpu, window, panel) else {
+        return Err(Fail::new("there is no listing"));
+    };
+    assert_eq!(rt; text.as_str(), expected);
+    Ok(())
 }
 
 // 3E 05, ED 39 80, 76: the accumulator goes to port 80H, and the card halts.
@@ -67,6 +66,7 @@ fn a_dot_by_the_pen(rt: HostRuntime) -> Result<(), Fail> {
         rt.alloc(),
         ran(Stop::Halted, 3, 8, 22),
         cpu,
+        Window::RESET,
         &panel_after(rt.alloc(), &[(0x0080, 5)])?,
         "stop=halted steps=3 cycles=8 states=22\npc=0006 sp=0000 af=0500 cbar=F0\npen 1 0080 05 0\n",
     )
@@ -83,6 +83,7 @@ fn asleep_reads_halted(rt: HostRuntime) -> Result<(), Fail> {
         rt.alloc(),
         ran(Stop::Halted, 1, 2, 8),
         cpu,
+        Window::RESET,
         &panel_after(rt.alloc(), &[])?,
         "stop=halted steps=1 cycles=2 states=8\npc=0002 sp=FFFE af=0000 cbar=F0\n",
     )
@@ -100,6 +101,7 @@ fn spent(rt: HostRuntime) -> Result<(), Fail> {
         rt.alloc(),
         ran(Stop::Spent, 334, 334, 1002),
         cpu,
+        Window::RESET,
         &panel_after(rt.alloc(), &[])?,
         "stop=spent steps=334 cycles=334 states=1002\npc=ABCD sp=0000 af=FF81 cbar=F0\n",
     )
@@ -108,20 +110,16 @@ fn spent(rt: HostRuntime) -> Result<(), Fail> {
 // A fault prints neither its number nor where it was.
 #[test]
 fn fault(rt: HostRuntime) -> Result<(), Fail> {
-    let ran = Ran {
-        stop: Stop::Fault(Fault {
-            denial: Denial::PanelFull,
-            pc: 0x1234,
-        }),
-        steps: 0,
-        cycles: 0,
-        states: 0,
+    let fault = Fault {
+        denial: Denial::PanelFull,
+        pc: 0x1234,
     };
     lists(
         &rt,
         rt.alloc(),
-        ran,
+        ran(Stop::Fault(fault), 0, 0, 0),
         Registers::new(),
+        Window::RESET,
         &panel_after(rt.alloc(), &[(0x0080, 0xA5)])?,
         "stop=fault steps=0 cycles=0 states=0\npc=0000 sp=0000 af=0000 cbar=F0\npen 1 0080 A5 0\n",
     )
@@ -153,6 +151,7 @@ fn three_chains_written_in_turns(rt: HostRuntime) -> Result<(), Fail> {
         rt.alloc(),
         ran(Stop::Spent, 0xFFFF_FFFF, 0xFFFF_FFFF_FFFF_FFFF, 1000),
         Registers::new(),
+        Window::RESET,
         &panel_after(rt.alloc(), &writes)?,
         expected.as_str(),
     )
@@ -160,29 +159,20 @@ fn three_chains_written_in_turns(rt: HostRuntime) -> Result<(), Fail> {
 
 #[test]
 fn another_window(rt: HostRuntime) -> Result<(), Fail> {
-    let heap = rt.alloc();
     let window = Window {
         cbar: 0x84,
         cbr: 0x7C,
         bbr: 0x20,
     };
-    let panel = panel_after(heap, &[])?;
-    match listing(
-        heap,
+    lists(
+        &rt,
+        rt.alloc(),
         ran(Stop::Spent, 1, 1, 3),
         Registers::new(),
         window,
-        &panel,
-    ) {
-        Ok(text) => {
-            assert_eq!(rt;
-                text.as_str(),
-                "stop=spent steps=1 cycles=1 states=3\npc=0000 sp=0000 af=0000 cbar=84\n"
-            );
-            Ok(())
-        },
-        Err(_) => Err(Fail::new("there is no listing")),
-    }
+        &panel_after(rt.alloc(), &[])?,
+        "stop=spent steps=1 cycles=1 states=3\npc=0000 sp=0000 af=0000 cbar=84\n",
+    )
 }
 
 #[test]

@@ -35,6 +35,7 @@ fn run_listing<M: Memory + Drop>(
     if !replayed.complete {
         return Err(Unplotted::NoMemory);
     }
+    // that there is a run follows from the log; the contract here holds without it
     let Some(ran) = run_answer(replayed.answers.as_slice()) else {
         return Err(Unplotted::NoMemory);
     };
