@@ -50,7 +50,7 @@ fn plot_text(
 }
 
 // The listing of a run, of the registers and the window that it left, and of the panel. The four are parameters and no struct,
-// since each comes from another call of a card, and only here do they meet.
+// since they meet only here.
 pub fn listing(
     heap: Global,
     ran: Ran,
