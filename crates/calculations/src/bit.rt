@@ -10,9 +10,7 @@ use arithmetic::bits;
 use instructions::group::bit::Bit;
 use machine::state::Machine;
 use memory::Memory;
-use operands::address::displaced;
 use operands::register::byte;
-use operands::word::Word;
 use panel::Panel;
 use registers::operand::Pair;
 use registers::registers::Registers;
@@ -32,7 +30,7 @@ pub fn on_bit<M: Memory, P: Panel>(m: &mut Machine<M, P>, form: Bit, displacemen
             test(&mut m.cpu, number, value);
         }
         Bit::TestIndexed(number, name) => {
-            let at = displaced(name.get(&m.cpu), displacement);
+            let at = m.behind(name, displacement);
             let value = m.read(at);
             test(&mut m.cpu, number, value);
         }

@@ -7,8 +7,6 @@ use crate::change::Change;
 use machine::outcome::take;
 use machine::state::Machine;
 use memory::Memory;
-use operands::address::displaced;
-use operands::register::byte;
 use operands::word::Word;
 use panel::Panel;
 use registers::operand::{Index, Pair, Register};
@@ -21,8 +19,8 @@ pub(crate) fn in_register<C: Change, M: Memory, P: Panel>(
     requires { Below 500 m.old }
     ensures { Ends P.make M.memory P.state (of.in_register (C.rule change) register) m.old m.new }
 {
-    m.internal(1);
-    let outcome = change.change(byte(&m.cpu, register), m.cpu.main.f);
+    let byte = m.register_byte(register);
+    let outcome = change.change(byte, m.cpu.main.f);
     take(&mut m.cpu, register, outcome);
 }
 
@@ -69,6 +67,6 @@ pub(crate) fn behind_index<C: Change, M: Memory, P: Panel>(
     requires { Below 500 m.old }
     ensures { Ends P.make M.memory P.state (of.behind_index (C.rule change) name displacement) m.old m.new }
 {
-    let at = displaced(name.get(&m.cpu), displacement);
+    let at = m.behind(name, displacement);
     at_address(m, change, at);
 }

@@ -2,11 +2,11 @@
 ghost use Rattle.instructions.specs.declared.group.calculation.Arithmetic.TheVariants as form;
 ghost use Rattle.arithmetic.specs.declared.flags.Flags.{Flags};
 ghost use Rattle.cycles.specs.Tree as tree;
-ghost use Rattle.machine.specs.Machines.{Below, Ends, Gives, got};
+ghost use Rattle.machine.specs.Machines.{Below, Ends};
 ghost use Rattle.processor.specs.Arithmetic as of;
 ghost use Rattle.processor.specs.Arithmetic.{calculates};
 ghost use Rattle.processor.specs.Parts as parts;
-ghost use Rattle.registers.specs.Operands.{along, value_of};
+ghost use Rattle.registers.specs.Operands.{along};
 ghost use Rattle.registers.specs.Registers.{with_f};
 ghost use Rattle.std.specs.Prelude.{◌≡◌, ℕ};
 
@@ -17,14 +17,13 @@ use arithmetic::multiply::multiply;
 use arithmetic::operation::Operation;
 use arithmetic::{add, logic, port, wide};
 use instructions::group::calculation::{Addend, Arithmetic};
-use machine::outcome::{accumulate, take};
+use machine::outcome::accumulate;
 use machine::state::Machine;
 use memory::Memory;
 use operands::address::along;
-use operands::register::byte;
 use operands::word::Word;
 use panel::Panel;
-use registers::operand::{Direction, Index, Pair, Register};
+use registers::operand::{Direction, Index, Pair};
 use registers::registers::Registers;
 
 // A calculation.
@@ -34,7 +33,7 @@ pub fn calculate<M: Memory, P: Panel>(m: &mut Machine<M, P>, form: Arithmetic)
 {
     match form {
         Arithmetic::Register(operation, from) => {
-            let byte = register_byte(m, from);
+            let byte = m.register_byte(from);
             operate(&mut m.cpu, operation, byte);
         }
         Arithmetic::Byte(operation) => {
@@ -56,7 +55,7 @@ pub fn calculate<M: Memory, P: Panel>(m: &mut Machine<M, P>, form: Arithmetic)
         Arithmetic::DecrementMemory => at_hl(m, Decrement),
         Arithmetic::DecrementIndexed(name) => at_index(m, Decrement, name),
         Arithmetic::TestRegister(with) => {
-            let byte = register_byte(m, with);
+            let byte = m.register_byte(with);
             test(&mut m.cpu, byte);
         }
         Arithmetic::TestByte => {
@@ -98,16 +97,14 @@ pub fn calculate<M: Memory, P: Panel>(m: &mut Machine<M, P>, form: Arithmetic)
 fn operate(cpu: &mut Registers, operation: Operation, byte: u8)
     ensures { cpu.new ≡ of.operated operation byte cpu.old }
 {
-    let outcome = operation.apply(cpu.main.a, byte, cpu.main.f);
-    take(cpu, Register::A, outcome);
+    accumulate(cpu, |a, flags| operation.apply(a, byte, flags));
 }
 
 // F after a test of A with a byte.
 fn test(cpu: &mut Registers, byte: u8)
     ensures { cpu.new ≡ of.tested byte cpu.old }
 {
-    let outcome = port::test(cpu.main.a, byte, cpu.main.f);
-    take(cpu, Register::A, outcome);
+    accumulate(cpu, |a, flags| port::test(a, byte, flags));
 }
 
 fn addend(cpu: &Registers, name: Addend, to: Index) -> u16
@@ -119,15 +116,6 @@ fn addend(cpu: &Registers, name: Addend, to: Index) -> u16
         Addend::Itself => to.get(cpu),
         Addend::Sp => cpu.sp,
     }
-}
-
-// A register's byte, after one state.
-fn register_byte<M: Memory, P: Panel>(m: &mut Machine<M, P>, from: Register) -> u8
-    requires { Below 500 m.old }
-    ensures { Gives {n = 0} P.make M.memory P.state (λ p. tree.internal 1 (got (value_of from p.cpu) p)) m.old result m.new }
-{
-    m.internal(1);
-    byte(&m.cpu, from)
 }
 
 // MLT ww

@@ -14,7 +14,6 @@ use instructions::group::rotation::Rotation;
 use machine::outcome::accumulate;
 use machine::state::Machine;
 use memory::Memory;
-use operands::word::Word;
 use panel::Panel;
 use registers::operand::{Pair, Register};
 
@@ -52,9 +51,8 @@ fn put_digits<M: Memory, P: Panel>(m: &mut Machine<M, P>, turned: ((u8, u8), Fla
         m.old m.new }
 {
     let ((a, value), flags) = turned;
-    let at = Pair::Hl.get(&m.cpu);
     m.internal(4);
-    m.write(at, value);
+    m.write_at(Pair::Hl, value);
     m.cpu.main.a = a;
     m.cpu.main.f = flags;
 }

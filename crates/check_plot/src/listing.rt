@@ -12,15 +12,9 @@ use std::alloc::Global;
 use std::process::Abort;
 use std::test::Fail;
 
-const EMPTY: Record = Record {
-    port: 0,
-    byte: 0,
-    next: 0,
-};
-
 // A panel of 64 records after these writes.
 fn panel_after(heap: Global, writes: &[(u16, u8)]) -> Result<Chain, Fail> {
-    let Ok(mut panel) = Chain::new(vec![in heap; EMPTY; 64]?) else {
+    let Ok(mut panel) = Chain::new(vec![in heap; Record::default(); 64]?) else {
         return Err(Fail::new("the table is denied"));
     };
     for (port, byte) in writes {

@@ -11,18 +11,15 @@ mod state;
 mod tally;
 mod trial;
 mod vector;
+mod zeros;
 
-use anyhow::anyhow;
-use memory::length::BoardLength;
 use outcome::Outcome;
 use std::io;
 use std::io::{BufRead, BufReader};
 use tally::Tally;
-use trial::outcome as outcome_of;
 use vector::{Source, Vector};
+use zeros::Zeros;
 
-// The highest cell of any vector is 27FFFH.
-const BYTES: usize = 163_840;
 // How many lines are told of that differ.
 const TOLD: u32 = 20;
 
@@ -92,8 +89,7 @@ fn judge(
     rt: &HostRuntime,
     counts: &mut Counts,
     line: &[u8],
-    bytes: &mut [u8],
-    size: BoardLength,
+    bank: &mut Zeros,
 ) -> io::Result<()> {
     counts.lines = counts.lines.saturating_add(1);
     let Some(vector) = Vector::read(line) else {
@@ -101,7 +97,7 @@ fn judge(
         counts.malformed = counts.malformed.saturating_add(1);
         return println!(rt; "line {number} is no vector");
     };
-    let is = outcome_of(&vector, bytes, size);
+    let is = bank.outcome(&vector);
     let agrees = is == vector.after;
     if !agrees && counts.differ() < TOLD {
         tell(rt, counts.lines, &is, &vector.after)?;
@@ -116,11 +112,11 @@ fn row(rt: &HostRuntime, name: &str, tally: Tally) -> io::Result<()> {
     println!(rt; "{name} {agree} agree, {differ} differ")
 }
 
-fn run(rt: &HostRuntime, bytes: &mut [u8], size: BoardLength) -> io::Result<()> {
+fn run(rt: &HostRuntime, bank: &mut Zeros) -> io::Result<()> {
     let mut counts = Counts::default();
     for line in BufReader::new(rt.alloc(), rt.stdin())?.lines(rt.alloc()) {
         let line = line?;
-        judge(rt, &mut counts, line.as_bytes(), bytes, size)?;
+        judge(rt, &mut counts, line.as_bytes(), bank)?;
     }
     row(rt, "z80ex", counts.z80ex)?;
     row(rt, "second reading", counts.reading)?;
@@ -130,10 +126,7 @@ fn run(rt: &HostRuntime, bytes: &mut [u8], size: BoardLength) -> io::Result<()> 
 }
 
 fn main(rt: HostRuntime) -> anyhow::Result<()> {
-    let mut bytes = vec![in rt.alloc(); 0; BYTES]?;
-    let Ok(size) = BoardLength::of_bank(&bytes) else {
-        return Err(anyhow!("the bank is too long"));
-    };
-    run(&rt, &mut bytes, size)?;
+    let mut bank = Zeros::new(rt.alloc())?;
+    run(&rt, &mut bank)?;
     Ok(())
 }

@@ -1,4 +1,4 @@
-// One step from a vector's state, over a bank that is 00 but for the vector's bytes.
+// One step from a vector's state, over a memory that is 00 but for the vector's bytes.
 use crate::access::Access;
 use crate::outcome::Outcome;
 use crate::recorder::Recorder;
@@ -7,8 +7,6 @@ use execution::step::step;
 use machine::cost::Cost;
 use machine::state::Machine;
 use memory::Memory;
-use memory::bank::Bank;
-use memory::length::BoardLength;
 use panel::Panel;
 
 fn byte_at<M: Memory>(memory: &M, at: u32) -> u8 {
@@ -53,13 +51,8 @@ fn take_all<M: Memory>(memory: &mut M, vector: &Vector) {
     put_code(memory, vector.cpu.pc, [0; 4]);
 }
 
-// Whether any byte is not 00. All are read, since so many together take less time than a test of each.
-fn any(bytes: &[u8]) -> bool {
-    bytes.iter().fold(0, |all, byte| all | *byte) != 0
-}
-
 // The step, and all but whether another byte changed; the vector's bytes are 00 again.
-fn stepped<M: Memory + Drop>(memory: M, vector: &Vector) -> Outcome {
+pub fn stepped<M: Memory + Drop>(memory: M, vector: &Vector) -> Outcome {
     let panel = Recorder {
         answer: vector.answer,
         access: Access::Nothing,
@@ -86,14 +79,4 @@ fn stepped<M: Memory + Drop>(memory: M, vector: &Vector) -> Outcome {
         code,
         astray: false,
     }
-}
-
-// What a step makes of a vector. All bytes are 00, before and after.
-pub fn outcome(vector: &Vector, bytes: &mut [u8], size: BoardLength) -> Outcome {
-    let outcome = stepped(Bank::new(bytes, size), vector);
-    let astray = any(bytes);
-    if astray {
-        bytes.fill(0);
-    }
-    Outcome { astray, ..outcome }
 }

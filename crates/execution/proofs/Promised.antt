@@ -15,13 +15,17 @@ if_taken (Ok cost) A a = a
 if_taken (Err why) A a = tt
 
 module _ {S : Type 0} (make : Make S) (c : Model S) where
-  pub few : (turn : Turn S) → turn ≡ step make c → Few c.processor.window 2 c.mem turn.card.mem
+  few : (turn : Turn S) → turn ≡ step make c → Few c.processor.window 2 c.mem turn.card.mem
   few turn e = subst (λ (t : Turn S). Few c.processor.window 2 c.mem t.card.mem) (sym e) ((steps.laws make).few c)
 
-  pub secluded : (turn : Turn S) → turn ≡ step make c → Secluded make c turn
+  secluded : (turn : Turn S) → turn ≡ step make c → Secluded make c turn
   secluded turn e pages n within agree =
       subst (λ (t : Turn S). Both pages c (over n c) t (step make (over n c))) (sym e)
       ((steps.laws make).both pages c (over n c) (record { processor = refl; panel = refl; memory = agree }) (if_taken (step make c).answer _ within))
+
+  -- all that a step promises, once it is the definition's
+  pub kept : (t : Turn S) → t ≡ step make c → record {turn : t ≡ step make c; few : Few c.processor.window 2 c.mem t.card.mem; secluded : Secluded make c t}
+  kept t e = record { turn = e; few = few t e; secluded = secluded t e }
 
   bad : (l : Option Line) (b : Bool) → l ≡ accepted make c.panel c.processor.cpu → b ≡ no_restart l c.processor.cpu.im (make.int0_byte c.panel) → b ≡ steps.bad_byte make c
   bad l b h k = k ∙ ap (λ (x : Option Line). no_restart x c.processor.cpu.im (make.int0_byte c.panel)) h

@@ -3,15 +3,14 @@ ghost use Rattle.execution.specs.Lines as of;
 ghost use Rattle.machine.specs.Machines.{Below, Ends};
 ghost use Rattle.panel.specs.declared.line.Line.TheVariants as lines;
 ghost use Rattle.processor.specs.Interrupt as interrupt;
-ghost use Rattle.registers.specs.Registers.{with_ief1, with_ief2};
-ghost use Rattle.std.specs.Prelude.{◌≡◌, false};
 
 use flow::call::enter;
+use flow::control::mask;
 use machine::state::Machine;
 use memory::Memory;
 use panel::Panel;
 use panel::line::Line;
-use registers::registers::{InterruptMode, Registers};
+use registers::registers::InterruptMode;
 
 // PC is pushed and read from a table in memory, low byte first.
 fn vectored<M: Memory, P: Panel>(m: &mut Machine<M, P>, at: u16)
@@ -59,13 +58,6 @@ fn by_table<M: Memory, P: Panel>(m: &mut Machine<M, P>, name: Line, place: u16)
     m.acknowledge(name, 6);
     let at = (u16::from(m.cpu.i) * 256).wrapping_add(place);
     vectored(m, at);
-}
-
-fn mask(cpu: &mut Registers)
-    ensures { cpu.new ≡ with_ief1 false (with_ief2 false cpu.old) }
-{
-    cpu.ief1 = false;
-    cpu.ief2 = false;
 }
 
 pub(crate) fn serve<M: Memory, P: Panel>(m: &mut Machine<M, P>, line: Line)

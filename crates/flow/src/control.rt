@@ -2,6 +2,8 @@
 ghost use Rattle.instructions.specs.declared.group.control.Control.TheVariants as form;
 ghost use Rattle.machine.specs.Machines.{Below, Ends};
 ghost use Rattle.processor.specs.Control.{controls};
+ghost use Rattle.registers.specs.Registers.{with_ief1, with_ief2};
+ghost use Rattle.std.specs.Prelude.{◌≡◌, false};
 
 use arithmetic::carry;
 use arithmetic::decimal::adjust;
@@ -10,7 +12,7 @@ use machine::outcome::accumulate;
 use machine::state::Machine;
 use memory::Memory;
 use panel::Panel;
-use registers::registers::Mode;
+use registers::registers::{Mode, Registers};
 
 // What the processor does to itself.
 pub fn control<M: Memory, P: Panel>(m: &mut Machine<M, P>, form: Control)
@@ -27,7 +29,7 @@ pub fn control<M: Memory, P: Panel>(m: &mut Machine<M, P>, form: Control)
         Control::ComplementCarry => accumulate(&mut m.cpu, carry::complement),
         Control::Halt => m.cpu.mode = Mode::Halted,
         Control::Sleep => sleep(m),
-        Control::DisableInterrupts => disable(m),
+        Control::DisableInterrupts => mask(&mut m.cpu),
         Control::EnableInterrupts => enable(m),
         Control::Mode(mode) => m.cpu.im = mode,
     }
@@ -42,13 +44,12 @@ fn sleep<M: Memory, P: Panel>(m: &mut Machine<M, P>)
     m.cpu.mode = Mode::Asleep;
 }
 
-// DI
-fn disable<M: Memory, P: Panel>(m: &mut Machine<M, P>)
-    requires { Below 500 m.old }
-    ensures { Ends P.make M.memory P.state (controls form.DisableInterrupts) m.old m.new }
+// DI, and what a maskable line that is accepted does first.
+pub fn mask(cpu: &mut Registers)
+    ensures { cpu.new ≡ with_ief1 false (with_ief2 false cpu.old) }
 {
-    m.cpu.ief1 = false;
-    m.cpu.ief2 = false;
+    cpu.ief1 = false;
+    cpu.ief2 = false;
 }
 
 // EI: the next step accepts no maskable line.

@@ -65,8 +65,7 @@ fn register_register<M: Memory, P: Panel>(m: &mut Machine<M, P>, to: Register, f
     requires { Below 500 m.old }
     ensures { Ends P.make M.memory P.state (loads (form.RegisterRegister to from)) m.old m.new }
 {
-    m.internal(1);
-    let value = byte(&m.cpu, from);
+    let value = m.register_byte(from);
     set_byte(&mut m.cpu, to, value);
 }
 
@@ -102,10 +101,8 @@ fn memory_register<M: Memory, P: Panel>(m: &mut Machine<M, P>, from: Register)
     requires { Below 500 m.old }
     ensures { Ends P.make M.memory P.state (loads (form.MemoryRegister from)) m.old m.new }
 {
-    m.internal(1);
-    let at = Pair::Hl.get(&m.cpu);
-    let value = byte(&m.cpu, from);
-    m.write(at, value);
+    let value = m.register_byte(from);
+    m.write_at(Pair::Hl, value);
 }
 
 // LD (HL),n
@@ -114,8 +111,7 @@ fn memory_byte<M: Memory, P: Panel>(m: &mut Machine<M, P>)
     ensures { Ends P.make M.memory P.state (loads form.MemoryByte) m.old m.new }
 {
     let value = m.operand();
-    let at = Pair::Hl.get(&m.cpu);
-    m.write(at, value);
+    m.write_at(Pair::Hl, value);
 }
 
 // LD (IX+d),r

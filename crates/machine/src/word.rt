@@ -2,6 +2,9 @@
 ghost use Rattle.cycles.specs.Tree as tree;
 ghost use Rattle.machine.specs.Machines.{Below, Ends, Gives, got};
 ghost use Rattle.processor.specs.Parts as parts;
+ghost use Rattle.registers.specs.Operands.{index_of};
+ghost use Rattle.registers.specs.Registers.{displaced};
+ghost use Rattle.std.specs.Prelude.{◌≡◌};
 
 use crate::state::Machine;
 use memory::Memory;
@@ -21,13 +24,20 @@ impl<M: Memory, P: Panel> Machine<M, P> {
         u16::from_le_bytes([low, high])
     }
 
-    // The address behind a displacement.
+    // The address behind an index register by a displacement that was fetched before.
+    pub fn behind(&self, name: Index, displacement: u8) -> u16
+        ensures { result ≡ displaced (index_of name self.now.cpu) displacement }
+    {
+        displaced(name.get(&self.cpu), displacement)
+    }
+
+    // The address behind one that is fetched now.
     pub fn indexed(&mut self, name: Index) -> u16
         requires { Below 1000 self.old }
         ensures { Gives {n = 0} P.make M.memory P.state (λ p. parts.indexed name p got) self.old result self.new }
     {
         let displacement = self.operand();
-        displaced(name.get(&self.cpu), displacement)
+        self.behind(name, displacement)
     }
 
     // The low byte is read, or written, first.

@@ -63,6 +63,7 @@ impl<'a> Memory for Bank<'a> {
         ensures loan { self.new.bytes.ghost_name ≡ self.old.bytes.ghost_name }
     {
         let i = place(at)?;
+        // tried: a slice's get_mut says nothing of what the slice ends as
         if i < self.in_use().len() {
             self.bytes[i] = byte;
         }

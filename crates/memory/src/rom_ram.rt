@@ -72,6 +72,7 @@ impl<'a> Memory for RomRam<'a> {
         let i = place(at)?;
         if i < self.length && i >= self.rom.len() {
             let i = i - self.rom.len();
+            // tried: a slice's get_mut says nothing of what the slice ends as
             if i < self.ram.len() {
                 self.ram[i] = byte;
             }

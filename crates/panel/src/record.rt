@@ -1,5 +1,5 @@
 // A record of the chain panel's table: a byte written to a port, and the number of the next record of its chain.
-#[derive(Clone, Copy, Debug, PartialEq, Eq)]
+#[derive(Clone, Copy, Debug, Default, PartialEq, Eq)]
 pub struct Record {
     pub port: u16,
     pub byte: u8,

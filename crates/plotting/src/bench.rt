@@ -14,12 +14,6 @@ pub(crate) const BYTES: usize = 65_536;
 // The records of the panel's table.
 const RECORDS: usize = 64;
 
-const EMPTY: Record = Record {
-    port: 0,
-    byte: 0,
-    next: 0,
-};
-
 // The image with zeros behind it.
 pub(crate) fn bank_bytes(heap: Global, image: &[u8]) -> Result<Vec<u8>, AllocError>
     requires { length image.now ≤ 65536 }
@@ -35,7 +29,7 @@ pub(crate) fn bank_bytes(heap: Global, image: &[u8]) -> Result<Vec<u8>, AllocErr
 fn table(heap: Global) -> Result<Vec<Record>, AllocError>
     ensures { IfOk result (λ v. length v.items ≡ 64) }
 {
-    vec![in heap; EMPTY; RECORDS]
+    vec![in heap; Record::default(); RECORDS]
 }
 
 // A new panel over such a table.

@@ -47,10 +47,11 @@ impl<E: Entry> Table<E> {
     {
         if let Some(at) = self.place(entry.key()) {
             self.entries[at] = entry;
-        } else if self.entries.try_push(entry).is_err() {
-            return Err(Denial::TooManyEntries);
+            return Ok(());
         }
-        Ok(())
+        self.entries
+            .try_push(entry)
+            .map_err(|_| Denial::TooManyEntries)
     }
 
     // The table of a plug's entries: of two with one key the later. 2 for an entry out of range, before 3 for a 33rd

@@ -68,9 +68,8 @@ fn transfer_byte<M: Memory, P: Panel>(m: &mut Machine<M, P>, way: Direction)
     requires { Below 550 m.old }
     ensures { Ends P.make M.memory P.state (blocks (form.Transfer way)) m.old m.new }
 {
-    let to = Pair::De.get(&m.cpu);
     let byte = m.read_at(Pair::Hl);
-    m.write(to, byte);
+    m.write_at(Pair::De, byte);
     moved(&mut m.cpu, way, byte);
 }
 

@@ -21,7 +21,6 @@ use machine::outcome::take;
 use machine::state::Machine;
 use memory::Memory;
 use operands::address::along;
-use operands::register::byte;
 use operands::word::Word;
 use panel::Panel;
 use registers::operand::{Direction, Pair, Register};
@@ -90,8 +89,7 @@ fn deliver<M: Memory, P: Panel>(m: &mut Machine<M, P>, port: u16, from: Register
     requires { Below 600 m.old }
     ensures { Ends {n = 0} P.make M.memory P.state (λ p. tree.internal 1 (parts.output port (value_of from p.cpu) p tree.done)) m.old m.new }
 {
-    m.internal(1);
-    let value = byte(&m.cpu, from);
+    let value = m.register_byte(from);
     m.output(port, value);
 }
 
@@ -167,10 +165,9 @@ fn input_block<M: Memory, P: Panel>(m: &mut Machine<M, P>, way: Direction)
     requires { Below 550 m.old }
     ensures { Ends P.make M.memory P.state (ports (form.InputBlock way)) m.old m.new }
 {
-    let at = Pair::Hl.get(&m.cpu);
     let port = Pair::Bc.get(&m.cpu);
     let byte = m.input(port);
-    m.write(at, byte);
+    m.write_at(Pair::Hl, byte);
     let outcome = block::port(m.cpu.main.b, byte, m.cpu.main.f);
     counted(&mut m.cpu, way, outcome);
 }

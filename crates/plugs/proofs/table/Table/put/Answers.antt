@@ -14,16 +14,16 @@ returns-in-Some-clause-ok g c =
     ∙ refill_same items (set items c.in-Some.at c.args.entry) (length-set items c.in-Some.at c.args.entry)
     ∙ put.1
 
-pub returns-then-is_err-clause-many : goal.returns-then-is_err-clause-many
-returns-then-is_err-clause-many g c =
+pub returns-clause-many : goal.returns-clause-many
+returns-clause-many g c =
     let key = g.E.Entry.key in
     let items = c.args.self.now.entries.items in
     let long = ap length (put_last key c.args.entry items (c.in_default.ensures ∙ ap (λ k. position (λ e. eqb (key e) k) items) c.key.ensures)) in
-    grind (arith, common_steps, long, length_push items c.args.entry, c.try_push.ensures.full, c.try_push.ensures.variant, c.if-is_err.ensures.value)
+    grind (arith, common_steps, long, length_push items c.args.entry, c.try_push.ensures.full, c.try_push.ensures.variant, c.map_err.ensures.variant)
 
-pub returns-else-is_err-clause-ok : goal.returns-else-is_err-clause-ok
-returns-else-is_err-clause-ok g c =
+pub returns-clause-ok : goal.returns-clause-ok
+returns-clause-ok g c =
     let key = g.E.Entry.key in
     let items = c.args.self.now.entries.items in
     let put = put_last key c.args.entry items (c.in_default.ensures ∙ ap (λ k. position (λ e. eqb (key e) k) items) c.key.ensures) in
-    grind (arith, common_steps, put, c.try_push.ensures.ok, c.if-is_err.ensures.value)
+    grind (arith, common_steps, put, c.try_push.ensures.ok, c.map_err.ensures.variant)
