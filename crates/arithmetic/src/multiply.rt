@@ -1,4 +1,4 @@
-// MLT: the product of two bytes as a word. The flags go through unchanged, so that it is called as the other operations are.
+// MLT: the product of two bytes as a word. As every operation here it answers F, which it leaves.
 ghost use Rattle.arithmetic.specs.Multiply as of;
 ghost use Rattle.std.specs.Prelude.{◌≡◌};
 

@@ -35,10 +35,7 @@ fn whole(bytes: &[u8], instruction: Instruction) -> Beginning
 fn whole_or(undefined: Beginning, bytes: &[u8], instruction: Option<Instruction>) -> Beginning
     ensures { result ≡ of.whole_or undefined bytes.now instruction }
 {
-    match instruction {
-        Some(instruction) => whole(bytes, instruction),
-        None => undefined,
-    }
+    instruction.map_or(undefined, |instruction| whole(bytes, instruction))
 }
 
 fn displaced(index: Index, bytes: &[u8]) -> Beginning

@@ -10,6 +10,7 @@ use arithmetic::flags::Flags;
 use arithmetic::increment::{decrement, increment};
 use arithmetic::rotate::Rotate;
 
+// A trait and no closure: what is done to memory needs its rule as a function, and of a closure only what it may answer is known.
 pub(crate) trait Change: Copy {
     ghost rule: { Self → ℕ → Flags → ℕ × Flags };
 

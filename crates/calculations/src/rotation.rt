@@ -32,13 +32,11 @@ pub fn rotate<M: Memory, P: Panel>(m: &mut Machine<M, P>, form: Rotation, displa
         Rotation::Indexed(kind, name) => behind_index(m, kind, name, displacement),
         Rotation::DigitsLeft => {
             let byte = m.read_at(Pair::Hl);
-            let turned = rld(m.cpu.main.a, byte, m.cpu.main.f);
-            put_digits(m, turned);
+            put_digits(m, rld(m.cpu.main.a, byte, m.cpu.main.f));
         }
         Rotation::DigitsRight => {
             let byte = m.read_at(Pair::Hl);
-            let turned = rrd(m.cpu.main.a, byte, m.cpu.main.f);
-            put_digits(m, turned);
+            put_digits(m, rrd(m.cpu.main.a, byte, m.cpu.main.f));
         }
     }
 }

@@ -10,23 +10,23 @@ pub mod unmade;
 #[derive(Clone, Copy, Debug, PartialEq, Eq)]
 pub enum Denial {
     // a memory of more than 524,288 bytes
-    MemoryTooLong,
+    MemoryTooLong = 1,
     // a plug entry that names a page above 127 or an address above 524,287
-    EntryOutOfRange,
+    EntryOutOfRange = 2,
     // a 33rd different page or address in one plug
-    TooManyEntries,
+    TooManyEntries = 3,
     // a chain table outside 2 to 4,096 records
-    TableLength,
+    TableLength = 4,
     // a direct memory access above 524,287
-    AddressBeyondMemory,
+    AddressBeyondMemory = 5,
     // a budget outside 1 to 1,000,000 states
-    BudgetOutOfRange,
+    BudgetOutOfRange = 6,
     // a look with a base above 127 or a buffer of more than 4,096 bytes
-    LookOutOfRange,
+    LookOutOfRange = 7,
     // a write, or a step, while the panel is full
-    PanelFull,
+    PanelFull = 8,
     // INT0 accepted in mode 0 with a byte that is none of the eight RST codes
-    NoRestartByte,
+    NoRestartByte = 9,
 }
 
 // Who denies: whoever makes a part, the memory, the card, or the panel.
@@ -49,17 +49,7 @@ impl Denial {
     pub fn number(self) -> u8
         ensures { result ≡ (told self).number }
     {
-        match self {
-            Denial::MemoryTooLong => 1,
-            Denial::EntryOutOfRange => 2,
-            Denial::TooManyEntries => 3,
-            Denial::TableLength => 4,
-            Denial::AddressBeyondMemory => 5,
-            Denial::BudgetOutOfRange => 6,
-            Denial::LookOutOfRange => 7,
-            Denial::PanelFull => 8,
-            Denial::NoRestartByte => 9,
-        }
+        self as u8
     }
 
     pub fn layer(self) -> Layer

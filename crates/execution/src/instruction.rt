@@ -23,8 +23,7 @@ use transfers::block::on_block;
 use transfers::port::on_port;
 
 // The displacement, where there is one, stood before the last opcode byte; where there is none it is 0, as in the definition, and
-// no form asks for it. PREFIXED has this compiled twice, so that a
-// first byte leads straight to its instruction.
+// no form asks for it. PREFIXED has this compiled twice, so that a first byte leads straight to its instruction.
 fn carry_out<const PREFIXED: bool, M: Memory, P: Panel>(
     m: &mut Machine<M, P>,
     instruction: Instruction,
@@ -57,20 +56,19 @@ fn trap<M: Memory, P: Panel>(m: &mut Machine<M, P>, byte: Undefined, start: u16)
     m.cpu.pc = 0;
 }
 
-// What the last opcode byte of the instruction from `start` on was decoded to.
+// What the last opcode byte of the instruction from `start` on was decoded to, or which byte is undefined.
 fn carry_out_or_trap<M: Memory, P: Panel>(
     m: &mut Machine<M, P>,
-    decoded: Option<Instruction>,
+    decoded: Result<Instruction, Undefined>,
     displacement: u8,
-    byte: Undefined,
     start: u16,
 )
     requires { Below 300 m.old }
-    ensures { Ends P.make M.memory P.state (of.or_trap decoded displacement (undefined.ufo byte) (undefined.address byte start)) m.old m.new }
+    ensures { Ends P.make M.memory P.state (undefined.carried_out_or_trapped decoded displacement start) m.old m.new }
 {
     match decoded {
-        Some(instruction) => carry_out::<true, M, P>(m, instruction, displacement),
-        None => trap(m, byte, start),
+        Ok(instruction) => carry_out::<true, M, P>(m, instruction, displacement),
+        Err(byte) => trap(m, byte, start),
     }
 }
 
@@ -81,8 +79,8 @@ fn third<M: Memory, P: Panel>(m: &mut Machine<M, P>, name: Index, start: u16)
 {
     let displacement = m.operand();
     let byte = m.opcode();
-    let decoded = indexed_cb_page::decode(name, byte);
-    carry_out_or_trap(m, decoded, displacement, Undefined::Third, start);
+    let decoded = indexed_cb_page::decode(name, byte).ok_or(Undefined::Third);
+    carry_out_or_trap(m, decoded, displacement, start);
 }
 
 fn behind_index<M: Memory, P: Panel>(m: &mut Machine<M, P>, second: Second, name: Index, start: u16)
@@ -102,8 +100,14 @@ fn on_page<M: Memory, P: Panel>(m: &mut Machine<M, P>, page: Page, start: u16)
 {
     let byte = m.opcode();
     match page {
-        Page::Bits => carry_out_or_trap(m, cb_page::decode(byte), 0, Undefined::Second, start),
-        Page::Extended => carry_out_or_trap(m, ed_page::decode(byte), 0, Undefined::Second, start),
+        Page::Bits => {
+            let decoded = cb_page::decode(byte).ok_or(Undefined::Second);
+            carry_out_or_trap(m, decoded, 0, start);
+        }
+        Page::Extended => {
+            let decoded = ed_page::decode(byte).ok_or(Undefined::Second);
+            carry_out_or_trap(m, decoded, 0, start);
+        }
         Page::Indexed(name) => behind_index(m, indexed_page::decode(name, byte), name, start),
     }
 }

@@ -4,8 +4,8 @@ ghost use Rattle.std.specs.Prelude.{◌≡◌, ◌<◌};
 
 #[derive(Clone, Copy, Debug)]
 pub(crate) enum Undefined {
-    Second,
-    Third,
+    Second = 0,
+    Third = 1,
 }
 
 impl Undefined {
@@ -14,10 +14,7 @@ impl Undefined {
         ensures value { result ≡ of.ufo self }
         ensures one_bit { result < 2 }
     {
-        match self {
-            Undefined::Second => 0,
-            Undefined::Third => 1,
-        }
+        self as u8
     }
 
     // The address that the trap pushes: that byte's, a displacement not counted.

@@ -11,7 +11,7 @@ use memory::Memory;
 use operands::word::Word;
 use panel::Panel;
 use registers::operand::Pair;
-use registers::registers::RegisterSet;
+use std::mem::swap;
 
 // An exchange, or the stack.
 pub fn exchange<M: Memory, P: Panel>(m: &mut Machine<M, P>, form: Exchange)
@@ -56,17 +56,8 @@ fn af_alternate<M: Memory, P: Panel>(m: &mut Machine<M, P>)
     ensures { Ends P.make M.memory P.state (exchanges form.AfAlternate) m.old m.new }
 {
     m.internal(1);
-    let RegisterSet { a, f, .. } = m.cpu.main;
-    m.cpu.main = RegisterSet {
-        a: m.cpu.alternate.a,
-        f: m.cpu.alternate.f,
-        ..m.cpu.main
-    };
-    m.cpu.alternate = RegisterSet {
-        a,
-        f,
-        ..m.cpu.alternate
-    };
+    swap(&mut m.cpu.main.a, &mut m.cpu.alternate.a);
+    swap(&mut m.cpu.main.f, &mut m.cpu.alternate.f);
 }
 
 // EX DE,HL
@@ -85,18 +76,10 @@ fn alternates<M: Memory, P: Panel>(m: &mut Machine<M, P>)
     requires { Below 500 m.old }
     ensures { Ends P.make M.memory P.state (exchanges form.Alternates) m.old m.new }
 {
-    let main = m.cpu.main;
-    let alternate = m.cpu.alternate;
-    m.cpu.main = RegisterSet {
-        a: main.a,
-        f: main.f,
-        ..alternate
-    };
-    m.cpu.alternate = RegisterSet {
-        a: alternate.a,
-        f: alternate.f,
-        ..main
-    };
+    swap(&mut m.cpu.main, &mut m.cpu.alternate);
+    // A and F stay
+    swap(&mut m.cpu.main.a, &mut m.cpu.alternate.a);
+    swap(&mut m.cpu.main.f, &mut m.cpu.alternate.f);
 }
 
 // EX (SP),HL and EX (SP),IX: the high byte is written first.

@@ -1,5 +1,4 @@
 // The machine cycles, one for each kind of node but the ports: each makes its access and counts itself.
-ghost use Rattle.std.specs.Prelude.{◌<◌};
 ghost use Rattle.cycles.specs.Tree as tree;
 ghost use Rattle.machine.specs.Machines.{Below, Ends, Gives, got};
 ghost use Rattle.processor.specs.Parts as parts;
@@ -13,13 +12,12 @@ use view::byte_through;
 
 impl<M: Memory, P: Panel> Machine<M, P> {
     // Nothing outside the processor, for so many states.
-    pub fn internal(&mut self, states: u32)
-        requires below { Below 2000 self.old }
-        requires states_bound { states < 100 }
+    pub fn internal(&mut self, states: u8)
+        requires { Below 2000 self.old }
         ensures { Ends {n = 0} P.make M.memory P.state (λ p. tree.internal states (tree.done p)) self.old self.new }
     {
-        self.spent.cycles = self.spent.cycles + 1;
-        self.spent.states = self.spent.states + states;
+        self.spent.cycles += 1;
+        self.spent.states += u32::from(states);
     }
 
     // A byte of data.
@@ -36,8 +34,12 @@ impl<M: Memory, P: Panel> Machine<M, P> {
         ensures { Ends {n = 1} P.make M.memory P.state (λ p. tree.write at byte (tree.done p)) self.old self.new }
     {
         self.internal(3);
-        // a translated address is never denied, and what takes no writes drops the byte
-        let _ = self.memory.write(self.window.physical(at), byte);
+        // what takes no writes drops the byte
+        match self.memory.write(self.window.physical(at), byte) {
+            Ok(()) => {}
+            // a translated address is never denied
+            Err(_) => unreachable!(),
+        }
     }
 
     // The opcode byte at PC, which R counts.
@@ -60,9 +62,8 @@ impl<M: Memory, P: Panel> Machine<M, P> {
     }
 
     // The acknowledgement of a line.
-    pub fn acknowledge(&mut self, line: Line, states: u32)
-        requires below { Below 2000 self.old }
-        requires states_bound { states < 100 }
+    pub fn acknowledge(&mut self, line: Line, states: u8)
+        requires { Below 2000 self.old }
         ensures { Ends {n = 0} P.make M.memory P.state (λ p. tree.acknowledge line states (tree.done p)) self.old self.new }
     {
         self.internal(states);

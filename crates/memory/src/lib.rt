@@ -40,6 +40,7 @@ pub trait Memory {
 }
 
 // Names the laws of a write, so that they are proved; it does nothing.
+#[tactic(auto, using(crate::proofs::Stores::laws))]
 pub fn store_laws()
     ensures { StoreLaws }
 {}

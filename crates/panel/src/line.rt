@@ -4,10 +4,10 @@ ghost use Rattle.std.specs.Prelude.{◌≡◌};
 
 #[derive(Clone, Copy, Debug, PartialEq, Eq)]
 pub enum Line {
-    Nmi,
-    Int0,
-    Int1,
-    Int2,
+    Nmi = 0,
+    Int0 = 1,
+    Int1 = 2,
+    Int2 = 3,
 }
 
 impl Line {
@@ -15,11 +15,6 @@ impl Line {
     pub fn number(self) -> u8
         ensures { result ≡ line_number self }
     {
-        match self {
-            Line::Nmi => 0,
-            Line::Int0 => 1,
-            Line::Int1 => 2,
-            Line::Int2 => 3,
-        }
+        self as u8
     }
 }

@@ -6,9 +6,9 @@ use std::fmt;
 
 #[derive(Clone, Copy, Debug, PartialEq, Eq)]
 pub enum Track {
-    Pen,
-    X,
-    Y,
+    Pen = 0,
+    X = 1,
+    Y = 2,
 }
 
 impl Track {
@@ -29,11 +29,7 @@ impl Track {
         ensures value { result ≡ track_number self }
         ensures bound { result < 3 }
     {
-        match self {
-            Track::Pen => 0,
-            Track::X => 1,
-            Track::Y => 2,
-        }
+        self as usize
     }
 }
 

@@ -5,16 +5,14 @@ ghost use Rattle.processor.specs.Block.{again_if};
 ghost use Rattle.processor.specs.Parts.{finish};
 ghost use Rattle.processor.specs.Port.{again_at_zero};
 ghost use Rattle.registers.specs.Registers.{down, with_pc};
-ghost use Rattle.std.specs.Prelude.{◌<◌};
 
 use machine::state::Machine;
 use memory::Memory;
 use panel::Panel;
 
 // PC goes back to the instruction, in so many states.
-fn back<M: Memory, P: Panel>(m: &mut Machine<M, P>, states: u32)
-    requires below { Below 700 m.old }
-    requires states_bound { states < 100 }
+fn back<M: Memory, P: Panel>(m: &mut Machine<M, P>, states: u8)
+    requires { Below 700 m.old }
     ensures { Ends {n = 0} P.make M.memory P.state (λ p. tree.internal states (finish (λ s. with_pc (down s.pc 2) s) p)) m.old m.new }
 {
     m.internal(states);

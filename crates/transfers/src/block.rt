@@ -10,6 +10,7 @@ ghost use Rattle.std.specs.Prelude.{◌≡◌};
 use crate::again::again;
 use arithmetic::block::{compare, transfer};
 use instructions::group::block::Block;
+use machine::outcome::accumulate;
 use machine::state::Machine;
 use memory::Memory;
 use operands::address::along;
@@ -59,8 +60,7 @@ fn matched(cpu: &mut Registers, way: Direction, byte: u8)
     ensures { cpu.new ≡ of.compared way byte cpu.old }
 {
     let left = passed(cpu, way);
-    let (_, flags) = compare(cpu.main.a, byte, left, cpu.main.f);
-    cpu.main.f = flags;
+    accumulate(cpu, |a, flags| compare(a, byte, left, flags));
 }
 
 // LDI and LDD

@@ -11,7 +11,7 @@ use crate::record::Record;
 use crate::track::Track;
 
 impl Chain {
-    // The number of a chain's first record, or 0, as a table says that there is none.
+    // The number of a chain's first record, or 0, which is no record's: no Option, so that a chain begins as a record goes on.
     pub fn first(&self, track: Track) -> u16
         ensures { result ≡ first_number ((chain_state self.now).chain (track_number track)) }
     {
