@@ -158,7 +158,7 @@ fn refused<M: Memory>(rt: &impl Abort, m: &mut Machine<M, Probe>, denial: Denial
 pub fn denied<M: Memory>(rt: &impl Abort, m: &mut Machine<M, Probe>, denial: Denial) {
     let (cpu, window, panel, before) = (m.cpu, m.window, m.panel, sum(m));
     refused(rt, m, denial);
-    assert!(rt; m.cpu == cpu && m.window == window);
-    assert!(rt; m.panel == panel);
+    assert_eq!(rt; (m.cpu, m.window), (cpu, window));
+    assert_eq!(rt; m.panel, panel);
     assert_eq!(rt; sum(m), before);
 }

@@ -101,7 +101,7 @@ fn after_trap(before: Registers, undefined: Undefined) -> Registers {
 fn traps<M: Memory>(rt: &impl Abort, m: &mut Machine<M, Probe>, undefined: Undefined) {
     let before = m.cpu;
     takes(rt, m, undefined.cost());
-    assert!(rt; m.cpu == after_trap(before, undefined));
+    assert_eq!(rt; m.cpu, after_trap(before, undefined));
     let pushed = before.pc.wrapping_add(undefined.past());
     has(rt, m, m.cpu.sp, &pushed.to_le_bytes());
 }
