@@ -83,9 +83,7 @@ fn main(rt: HostRuntime) -> anyhow::Result<()> {
     rt.stdin().take(64).read_to_string(&mut text)?;
     let count = text.as_str().trim().parse::<u64>()?;
     let mut bytes = memory_with_image(rt.alloc())?;
-    let Ok(size) = BoardLength::of_bank(&bytes) else {
-        return Err(anyhow!("the memory is too long"));
-    };
+    let size = BoardLength::of_bank(&bytes).map_err(|_| anyhow!("the memory is too long"))?;
     let ran = run(rt.alloc(), &mut bytes, size, count);
     show(&rt, count, ran, &bytes)
 }

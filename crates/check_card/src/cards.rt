@@ -33,10 +33,7 @@ pub(crate) fn with_room_for(heap: Global, writes: u16) -> Result<Chain, Fail> {
 }
 
 // A card over a bank of these bytes.
-pub(crate) fn over<P: Panel>(bytes: &mut [u8], panel: P) -> Result<Card<Bank<'_>, P>, Fail>
-where
-    P: Drop,
-{
+pub(crate) fn over<P: Panel + Drop>(bytes: &mut [u8], panel: P) -> Result<Card<Bank<'_>, P>, Fail> {
     let size = BoardLength::of_bank(bytes)?;
     Ok(Card::new(Bank::new(bytes, size), panel))
 }

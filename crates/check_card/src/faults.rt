@@ -13,27 +13,21 @@ use panel::track::Track;
 use std::process::Abort;
 use std::test::Fail;
 
-fn faulted(denial: Denial, pc: u16, steps: u32, cycles: u64, states: u64) -> Ran {
-    ran(Stop::Fault(Fault { denial, pc }), steps, cycles, states)
+fn faulted(fault: Fault, steps: u32, cycles: u64, states: u64) -> Ran {
+    ran(Stop::Fault(fault), steps, cycles, states)
 }
 
 // The step is denied, with PC, and leaves every register and the memory.
 fn step_denied<M: Memory, P: Panel>(
     rt: &impl Abort,
     card: &mut Card<M, P>,
-    number: u8,
-    pc: u16,
+    fault: Fault,
     bytes: &[u8],
-) -> Result<(), Fail> {
+) {
     let was = card.registers();
-    let Err(fault) = card.step() else {
-        return Err(Fail::new("the step is taken"));
-    };
-    denied_as(rt, fault.denial, number, Layer::Panel);
-    assert_eq!(rt; fault.pc, pc);
+    assert_eq!(rt; card.step(), Err(fault));
     registers_are(rt, card, was);
     holds(rt, card, bytes);
-    Ok(())
 }
 
 // LD A,5 and two times OUT0 (80H),A.
@@ -52,19 +46,19 @@ fn one_byte_recorded<M: Memory>(rt: &impl Abort, card: &Card<M, Chain>) {
 
 #[test]
 fn a_full_panel(rt: HostRuntime) -> Result<(), Fail> {
+    let full = Fault {
+        denial: Denial::PanelFull,
+        pc: 5,
+    };
+    denied_as(&rt, full.denial, 8, Layer::Panel);
     let mut bytes = PLOT;
     let mut card = over(&mut bytes, with_room_for(rt.alloc(), 1)?)?;
-    runs(
-        &rt,
-        &mut card,
-        1000,
-        faulted(Denial::PanelFull, 5, 2, 7, 19),
-    );
+    runs(&rt, &mut card, 1000, faulted(full, 2, 7, 19));
     one_byte_recorded(&rt, &card);
-    step_denied(&rt, &mut card, 8, 5, &PLOT)?;
+    step_denied(&rt, &mut card, full, &PLOT);
     one_byte_recorded(&rt, &card);
     // the first step is denied: nothing is counted
-    runs(&rt, &mut card, 1000, faulted(Denial::PanelFull, 5, 0, 0, 0));
+    runs(&rt, &mut card, 1000, faulted(full, 0, 0, 0));
     one_byte_recorded(&rt, &card);
     pc_is(&rt, &card, 5);
     Ok(())
@@ -75,21 +69,16 @@ const ENABLING: [u8; 3] = [0xFB, 0, 0];
 
 #[test]
 fn a_byte_that_is_no_restart(rt: HostRuntime) -> Result<(), Fail> {
+    let no_restart = Fault {
+        denial: Denial::NoRestartByte,
+        pc: 2,
+    };
+    denied_as(&rt, no_restart.denial, 9, Layer::Panel);
     let mut bytes = ENABLING;
     let mut card = over(&mut bytes, asking(rt.alloc(), 1, 0xC6))?;
-    runs(
-        &rt,
-        &mut card,
-        1000,
-        faulted(Denial::NoRestartByte, 2, 2, 2, 6),
-    );
-    step_denied(&rt, &mut card, 9, 2, &ENABLING)?;
+    runs(&rt, &mut card, 1000, faulted(no_restart, 2, 2, 6));
+    step_denied(&rt, &mut card, no_restart, &ENABLING);
     asks_int0(&rt, &card, true);
-    runs(
-        &rt,
-        &mut card,
-        1,
-        faulted(Denial::NoRestartByte, 2, 0, 0, 0),
-    );
+    runs(&rt, &mut card, 1, faulted(no_restart, 0, 0, 0));
     Ok(())
 }

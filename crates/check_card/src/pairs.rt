@@ -62,6 +62,7 @@ fn patched_at(rt: &impl Abort, heap: Global, address: u32, line: usize) -> Resul
     let size = BoardLength::of_bank(&bytes)?;
     let bank = Bank::new(&mut bytes, size);
     let below = Bank::new(&mut others, size);
+    // tried: map_err and `?`, behind which the borrow check covers no plug over a loan
     let Ok(patched) = Patch::new(below, &[PatchEntry { address, byte: 1 }]) else {
         return Err(Fail::new("the plug is denied"));
     };

@@ -4,24 +4,20 @@ use crate::cards::{
 };
 use card::card::Card;
 use card::ran::Stop;
-use denial::Layer;
+use denial::{Denial, Layer};
 use memory::Memory;
 use panel::script::Script;
 use std::process::Abort;
 use std::test::Fail;
 
 // The panel is told 3 states by a NOP; one more state would make it ask.
-fn denies<M: Memory>(rt: &impl Abort, card: &mut Card<M, Script>, budget: u32) -> Result<(), Fail> {
+fn denies<M: Memory>(rt: &impl Abort, card: &mut Card<M, Script>, budget: u32) {
     let was = card.registers();
-    let Err(denial) = card.run(budget) else {
-        return Err(Fail::new("the budget is accepted"));
-    };
-    denied_as(rt, denial, 6, Layer::Card);
+    assert_eq!(rt; card.run(budget), Err(Denial::BudgetOutOfRange));
     registers_are(rt, card, was);
     holds(rt, card, &[0, 0, 1, 2]);
     assert_eq!(rt; card.panel().last_write(), None);
     asks_int0(rt, card, false);
-    Ok(())
 }
 
 #[test]
@@ -29,9 +25,10 @@ fn budgets_out_of_range(rt: HostRuntime) -> Result<(), Fail> {
     let mut bytes = [0, 0, 1, 2];
     let mut card = over(&mut bytes, asking(rt.alloc(), 4, 0xC7))?;
     runs(&rt, &mut card, 1, ran(Stop::Spent, 1, 1, 3));
-    denies(&rt, &mut card, 0)?;
-    denies(&rt, &mut card, 1_000_001)?;
-    denies(&rt, &mut card, 0xFFFF_FFFF)?;
+    denies(&rt, &mut card, 0);
+    denies(&rt, &mut card, 1_000_001);
+    denies(&rt, &mut card, 0xFFFF_FFFF);
+    denied_as(&rt, Denial::BudgetOutOfRange, 6, Layer::Card);
     pc_is(&rt, &card, 1);
     runs(&rt, &mut card, 1, ran(Stop::Spent, 1, 1, 3));
     asks_int0(&rt, &card, true);

@@ -65,19 +65,22 @@ pub fn banked(bytes: &mut [u8]) -> Result<Machine<Bank<'_>, Probe>, Fail> {
     Ok(card(Bank::new(bytes, size)))
 }
 
-// Addresses wrap at the end of the logical space.
+// So far behind an address; addresses wrap at the end of the logical space.
+fn behind(at: u16, i: usize) -> u16 {
+    at.wrapping_add((i % 65_536) as u16)
+}
+
 pub fn put<M: Memory>(m: &mut Machine<M, Probe>, at: u16, bytes: &[u8]) -> Result<(), Fail> {
     for (i, byte) in bytes.iter().enumerate() {
-        let at = at.wrapping_add((i % 65_536) as u16);
-        m.memory.write(m.window.physical(at), *byte)?;
+        m.memory.write(m.window.physical(behind(at, i)), *byte)?;
     }
     Ok(())
 }
 
 pub fn has<M: Memory>(rt: &impl Abort, m: &Machine<M, Probe>, at: u16, bytes: &[u8]) {
     for (i, byte) in bytes.iter().enumerate() {
-        let at = at.wrapping_add((i % 65_536) as u16);
-        assert_eq!(rt; m.memory.read(m.window.physical(at)), Ok(*byte));
+        let at = m.window.physical(behind(at, i));
+        assert_eq!(rt; m.memory.read(at), Ok(*byte));
     }
 }
 
@@ -155,7 +158,7 @@ fn refused<M: Memory>(rt: &impl Abort, m: &mut Machine<M, Probe>, denial: Denial
 pub fn denied<M: Memory>(rt: &impl Abort, m: &mut Machine<M, Probe>, denial: Denial) {
     let (cpu, window, panel, before) = (m.cpu, m.window, m.panel, sum(m));
     refused(rt, m, denial);
-    assert!(rt; m.cpu == cpu && m.window == window);
-    assert!(rt; m.panel == panel);
+    assert_eq!(rt; (m.cpu, m.window), (cpu, window));
+    assert_eq!(rt; m.panel, panel);
     assert_eq!(rt; sum(m), before);
 }

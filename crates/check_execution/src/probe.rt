@@ -8,7 +8,7 @@ use panel::sent::Sent;
 pub mod as_panel;
 
 // The lines that it asks for.
-#[derive(Clone, Copy, PartialEq, Eq, Default)]
+#[derive(Clone, Copy, Debug, PartialEq, Eq, Default)]
 pub struct Asked {
     pub nmi: bool,
     pub int0: bool,
@@ -40,7 +40,7 @@ impl Asked {
     }
 }
 
-#[derive(Clone, Copy, PartialEq, Eq)]
+#[derive(Clone, Copy, Debug, PartialEq, Eq)]
 pub struct Probe {
     pub asked: Asked,
     // whether a line is still asked for when it was acknowledged

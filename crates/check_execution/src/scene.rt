@@ -8,7 +8,7 @@ use memory::Memory;
 use panel::Panel;
 use panel::line::Line;
 use panel::sent::Sent;
-use registers::registers::{InterruptMode, Mode, RegisterSet, Registers};
+use registers::registers::{InterruptMode, Mode};
 use registers::window::Window;
 use std::alloc::Global;
 use std::process::Abort;
@@ -75,95 +75,42 @@ pub enum Seen {
     Read(Option<u16>),
 }
 
-fn give_panel(panel: &mut Probe, given: Given) {
-    match given {
-        Given::Asks(line) => panel.asked.set(line, true),
-        Given::Keeps => panel.keeps = true,
-        Given::Full => panel.full = true,
-        Given::Gives(byte) => panel.byte = byte,
-        _ => {}
-    }
-}
-
-fn give_modes(cpu: &mut Registers, given: Given) {
-    match given {
-        Given::Im(mode) => cpu.im = mode,
-        Given::Is(mode) => cpu.mode = mode,
-        Given::Flips(ief1, ief2) => {
-            cpu.ief1 = ief1;
-            cpu.ief2 = ief2;
-        }
-        Given::Pc(at) => cpu.pc = at,
-        Given::Sp(at) => cpu.sp = at,
-        _ => {}
-    }
-}
-
-fn give_bytes(cpu: &mut Registers, given: Given) {
-    match given {
-        Given::Itc(byte) => cpu.itc = byte,
-        Given::Icr(byte) => cpu.icr = byte,
-        Given::I(byte) => cpu.i = byte,
-        Given::Il(byte) => cpu.il = byte,
-        Given::R(byte) => cpu.r = byte,
-        _ => {}
-    }
-}
-
-fn give_main(main: &mut RegisterSet, given: Given) {
-    match given {
-        Given::A(byte) => main.a = byte,
-        Given::Hl(high, low) => {
-            main.h = high;
-            main.l = low;
-        }
-        _ => {}
-    }
-}
-
 fn give<M: Memory>(m: &mut Machine<M, Probe>, given: Given) -> Result<(), Fail> {
-    give_panel(&mut m.panel, given);
-    give_modes(&mut m.cpu, given);
-    give_bytes(&mut m.cpu, given);
-    give_main(&mut m.cpu.main, given);
     match given {
-        Given::Word(at, value) => put(m, at, &value.to_le_bytes()),
-        Given::Cell(at, byte) => Ok(m.memory.write(at, byte)?),
-        Given::Shows(window) => {
-            m.window = window;
-            Ok(())
-        }
-        _ => Ok(()),
+        Given::Asks(line) => m.panel.asked.set(line, true),
+        Given::Keeps => m.panel.keeps = true,
+        Given::Full => m.panel.full = true,
+        Given::Gives(byte) => m.panel.byte = byte,
+        Given::Im(mode) => m.cpu.im = mode,
+        Given::Itc(byte) => m.cpu.itc = byte,
+        Given::I(byte) => m.cpu.i = byte,
+        Given::Il(byte) => m.cpu.il = byte,
+        Given::Sp(at) => m.cpu.sp = at,
+        Given::Flips(ief1, ief2) => (m.cpu.ief1, m.cpu.ief2) = (ief1, ief2),
+        Given::Is(mode) => m.cpu.mode = mode,
+        Given::Word(at, value) => put(m, at, &value.to_le_bytes())?,
+        Given::Cell(at, byte) => m.memory.write(at, byte)?,
+        Given::Pc(at) => m.cpu.pc = at,
+        Given::A(byte) => m.cpu.main.a = byte,
+        Given::R(byte) => m.cpu.r = byte,
+        Given::Hl(high, low) => (m.cpu.main.h, m.cpu.main.l) = (high, low),
+        Given::Icr(byte) => m.cpu.icr = byte,
+        Given::Shows(window) => m.window = window,
     }
+    Ok(())
 }
 
-fn see_panel(rt: &impl Abort, panel: &Probe, seen: Seen) {
-    match seen {
-        Seen::Sent(sent) => assert_eq!(rt; panel.last_write, sent),
-        Seen::Read(port) => assert_eq!(rt; panel.last_read, port),
-        _ => {}
-    }
-}
-
-fn see_registers(rt: &impl Abort, cpu: &Registers, seen: Seen) {
-    match seen {
-        Seen::A(byte) => assert_eq!(rt; cpu.main.a, byte),
-        Seen::Hl(high, low) => assert_eq!(rt; (cpu.main.h, cpu.main.l), (high, low)),
-        Seen::R(byte) => assert_eq!(rt; cpu.r, byte),
-        Seen::Sp(at) => assert_eq!(rt; cpu.sp, at),
-        Seen::Icr(byte) => assert_eq!(rt; cpu.icr, byte),
-        _ => {}
-    }
-}
-
-// Each is compared by one of these, and passed over by the others.
 fn see<M: Memory>(rt: &impl Abort, m: &Machine<M, Probe>, seen: Seen) {
-    see_panel(rt, &m.panel, seen);
-    see_registers(rt, &m.cpu, seen);
     match seen {
+        Seen::A(byte) => assert_eq!(rt; m.cpu.main.a, byte),
+        Seen::Hl(high, low) => assert_eq!(rt; (m.cpu.main.h, m.cpu.main.l), (high, low)),
+        Seen::R(byte) => assert_eq!(rt; m.cpu.r, byte),
+        Seen::Sp(at) => assert_eq!(rt; m.cpu.sp, at),
+        Seen::Icr(byte) => assert_eq!(rt; m.cpu.icr, byte),
         Seen::Cbr(byte) => assert_eq!(rt; m.window.cbr, byte),
         Seen::Word(at, value) => has(rt, m, at, &value.to_le_bytes()),
-        _ => {}
+        Seen::Sent(sent) => assert_eq!(rt; m.panel.last_write, sent),
+        Seen::Read(port) => assert_eq!(rt; m.panel.last_read, port),
     }
 }
 

@@ -62,6 +62,28 @@ impl Undefined {
             Undefined::Third => 3,
         }
     }
+
+    // How far behind the first opcode byte it stands, a displacement not counted.
+    fn past(self) -> u16 {
+        match self {
+            Undefined::Second => 1,
+            Undefined::Third => 2,
+        }
+    }
+
+    // What the step costs that traps.
+    fn cost(self) -> Cost {
+        match self {
+            Undefined::Second => Cost {
+                cycles: 4,
+                states: 12,
+            },
+            Undefined::Third => Cost {
+                cycles: 6,
+                states: 18,
+            },
+        }
+    }
 }
 
 // What a trap changes of the registers: nothing but these four.
@@ -75,42 +97,13 @@ fn after_trap(before: Registers, undefined: Undefined) -> Registers {
     }
 }
 
-// The address of the undefined byte is pushed, a displacement not counted.
-fn trapped<M: Memory>(
-    rt: &impl Abort,
-    m: &Machine<M, Probe>,
-    before: Registers,
-    undefined: Undefined,
-) {
-    let past = match undefined {
-        Undefined::Second => 1,
-        Undefined::Third => 2,
-    };
-    assert!(rt; m.cpu == after_trap(before, undefined));
-    has(rt, m, m.cpu.sp, &before.pc.wrapping_add(past).to_le_bytes());
-}
-
+// The step traps: the address of the undefined byte is pushed.
 fn traps<M: Memory>(rt: &impl Abort, m: &mut Machine<M, Probe>, undefined: Undefined) {
     let before = m.cpu;
-    match undefined {
-        Undefined::Second => takes(
-            rt,
-            m,
-            Cost {
-                cycles: 4,
-                states: 12,
-            },
-        ),
-        Undefined::Third => takes(
-            rt,
-            m,
-            Cost {
-                cycles: 6,
-                states: 18,
-            },
-        ),
-    }
-    trapped(rt, m, before, undefined);
+    takes(rt, m, undefined.cost());
+    assert_eq!(rt; m.cpu, after_trap(before, undefined));
+    let pushed = before.pc.wrapping_add(undefined.past());
+    has(rt, m, m.cpu.sp, &pushed.to_le_bytes());
 }
 
 // A step is taken, and ITC is as it was.

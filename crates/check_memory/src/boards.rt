@@ -1,5 +1,5 @@
 // Boards at their boundary addresses.
-use denial::Denial;
+use denial::{Denial, Layer};
 use memory::Memory;
 use memory::bank::Bank;
 use memory::length::BoardLength;
@@ -79,13 +79,9 @@ fn the_longest_bank_is_made_and_one_byte_more_is_denied(rt: HostRuntime) -> Resu
     let bytes = vec![in rt.alloc(); 5u8; 524_288]?;
     assert_eq!(rt; BoardLength::of_bank(&bytes)?.bytes(), 524_288);
     let bytes = vec![in rt.alloc(); 5u8; 524_289]?;
-    let Err(denial) = BoardLength::of_bank(&bytes) else {
-        return Err(Fail::new("a byte too many was accepted"));
-    };
-    assert_eq!(rt;
-        (denial.number(), denial.layer()),
-        (1, denial::Layer::Making)
-    );
+    let too_long = Denial::MemoryTooLong;
+    assert_eq!(rt; BoardLength::of_bank(&bytes).err(), Some(too_long));
+    assert_eq!(rt; (too_long.number(), too_long.layer()), (1, Layer::Making));
     Ok(())
 }
 
@@ -93,10 +89,10 @@ fn the_longest_bank_is_made_and_one_byte_more_is_denied(rt: HostRuntime) -> Resu
 fn a_board_counts_both_parts(rt: HostRuntime) -> Result<(), Fail> {
     let rom = vec![in rt.alloc(); 0u8; 524_288]?;
     assert_eq!(rt; BoardLength::of_rom_ram(&rom, &[])?.bytes(), 524_288);
-    let Err(denial) = BoardLength::of_rom_ram(&rom, &[0]) else {
-        return Err(Fail::new("a byte too many was accepted"));
-    };
-    assert_eq!(rt; denial.number(), 1);
+    assert_eq!(rt;
+        BoardLength::of_rom_ram(&rom, &[0]).err(),
+        Some(Denial::MemoryTooLong)
+    );
     Ok(())
 }
 

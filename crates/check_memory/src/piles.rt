@@ -23,7 +23,7 @@ const PATCHES: [PatchEntry; 2] = [
     },
 ];
 
-// `let .. else` stands before it: `map_err` and `?` were tried, and the borrow check covers no plug over a loan behind them.
+// `let .. else` stands before it; tried: map_err and `?`, behind which the borrow check covers no plug over a loan.
 fn denied<T>() -> Result<T, Fail> {
     Err(Fail::new("the plug was denied"))
 }

@@ -169,6 +169,7 @@ fn of_two_patches_of_one_address_the_later_counts(rt: HostRuntime) -> Result<(),
             byte: 9,
         },
     ];
+    // tried: map_err and `?`, behind which the borrow check covers no plug over a loan
     let Ok(patch) = Patch::new(below, &entries) else {
         return Err(Fail::new("the plug was denied"));
     };

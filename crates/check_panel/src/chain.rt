@@ -180,6 +180,7 @@ fn tables_of_other_lengths(rt: HostRuntime) -> Result<(), Fail> {
         let Err(unmade) = Chain::new(table) else {
             return Err(Fail::new("the table is taken"));
         };
+        assert_eq!(rt; unmade.denial, Denial::TableLength);
         assert_eq!(rt; unmade.denial.number(), 4);
         assert_eq!(rt; unmade.given.len(), records);
         for record in unmade.given.iter() {

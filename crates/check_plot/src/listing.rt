@@ -14,22 +14,12 @@ use std::test::Fail;
 
 // A panel of 64 records after these writes.
 fn panel_after(heap: Global, writes: &[(u16, u8)]) -> Result<Chain, Fail> {
-    let Ok(mut panel) = Chain::new(vec![in heap; Record::default(); 64]?) else {
-        return Err(Fail::new("the table is denied"));
-    };
+    let table = vec![in heap; Record::default(); 64]?;
+    let mut panel = Chain::new(table).map_err(|_| Fail::new("the table is denied"))?;
     for (port, byte) in writes {
         panel.write(*port, *byte)?;
     }
     Ok(panel)
-}
-
-fn ran(stop: Stop, steps: u32, cycles: u64, states: u64) -> Ran {
-    Ran {
-        stop,
-        steps,
-        cycles,
-        states,
-    }
 }
 
 fn lists(
@@ -41,9 +31,7 @@ fn lists(
     panel: &Chain,
     expected: &str,
 ) -> Result<(), Fail> {
-    let Ok(text) = listing(heap, ran, cpu, window, panel) else {
-        return Err(Fail::new("there is no listing"));
-    };
+    let text = listing(heap, ran, cpu, window, panel)?;
     assert_eq!(rt; text.as_str(), expected);
     Ok(())
 }
@@ -58,7 +46,12 @@ fn a_dot_by_the_pen(rt: HostRuntime) -> Result<(), Fail> {
     lists(
         &rt,
         rt.alloc(),
-        ran(Stop::Halted, 3, 8, 22),
+        Ran {
+            stop: Stop::Halted,
+            steps: 3,
+            cycles: 8,
+            states: 22,
+        },
         cpu,
         Window::RESET,
         &panel_after(rt.alloc(), &[(0x0080, 5)])?,
@@ -75,7 +68,12 @@ fn asleep_reads_halted(rt: HostRuntime) -> Result<(), Fail> {
     lists(
         &rt,
         rt.alloc(),
-        ran(Stop::Halted, 1, 2, 8),
+        Ran {
+            stop: Stop::Halted,
+            steps: 1,
+            cycles: 2,
+            states: 8,
+        },
         cpu,
         Window::RESET,
         &panel_after(rt.alloc(), &[])?,
@@ -93,7 +91,12 @@ fn spent(rt: HostRuntime) -> Result<(), Fail> {
     lists(
         &rt,
         rt.alloc(),
-        ran(Stop::Spent, 334, 334, 1002),
+        Ran {
+            stop: Stop::Spent,
+            steps: 334,
+            cycles: 334,
+            states: 1002,
+        },
         cpu,
         Window::RESET,
         &panel_after(rt.alloc(), &[])?,
@@ -111,7 +114,12 @@ fn fault(rt: HostRuntime) -> Result<(), Fail> {
     lists(
         &rt,
         rt.alloc(),
-        ran(Stop::Fault(fault), 0, 0, 0),
+        Ran {
+            stop: Stop::Fault(fault),
+            steps: 0,
+            cycles: 0,
+            states: 0,
+        },
         Registers::new(),
         Window::RESET,
         &panel_after(rt.alloc(), &[(0x0080, 0xA5)])?,
@@ -143,7 +151,12 @@ fn three_chains_written_in_turns(rt: HostRuntime) -> Result<(), Fail> {
     lists(
         &rt,
         rt.alloc(),
-        ran(Stop::Spent, 0xFFFF_FFFF, 0xFFFF_FFFF_FFFF_FFFF, 1000),
+        Ran {
+            stop: Stop::Spent,
+            steps: 0xFFFF_FFFF,
+            cycles: 0xFFFF_FFFF_FFFF_FFFF,
+            states: 1000,
+        },
         Registers::new(),
         Window::RESET,
         &panel_after(rt.alloc(), &writes)?,
@@ -161,7 +174,12 @@ fn another_window(rt: HostRuntime) -> Result<(), Fail> {
     lists(
         &rt,
         rt.alloc(),
-        ran(Stop::Spent, 1, 1, 3),
+        Ran {
+            stop: Stop::Spent,
+            steps: 1,
+            cycles: 1,
+            states: 3,
+        },
         Registers::new(),
         window,
         &panel_after(rt.alloc(), &[])?,

@@ -1,4 +1,5 @@
-// What a step asked of the panel.
+// What a step asked of the panel. Nothing is a case of its own and no Option's None: a vector has a number for it as for
+// the others, and what stands behind it, and its numbers, are told case by case.
 ghost use Rattle.check_vectors.specs.Accesses.{behind};
 ghost use Rattle.std.specs.Prelude.{◌≡◌};
 

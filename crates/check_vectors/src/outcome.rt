@@ -52,14 +52,14 @@ fn mode(mode: Mode) -> u32 {
 pub fn set(set: &RegisterSet) -> [u32; 8] {
     let f = u8::from(set.f);
     [
-        set.a as u32,
-        f as u32,
-        set.b as u32,
-        set.c as u32,
-        set.d as u32,
-        set.e as u32,
-        set.h as u32,
-        set.l as u32,
+        u32::from(set.a),
+        u32::from(f),
+        u32::from(set.b),
+        u32::from(set.c),
+        u32::from(set.d),
+        u32::from(set.e),
+        u32::from(set.h),
+        u32::from(set.l),
     ]
 }
 
@@ -70,20 +70,20 @@ impl Outcome {
         let im = interrupt_mode(cpu.im);
         let mode = mode(cpu.mode);
         [
-            cpu.ix as u32,
-            cpu.iy as u32,
-            cpu.sp as u32,
-            cpu.pc as u32,
-            cpu.i as u32,
-            cpu.r as u32,
-            cpu.ief1 as u32,
-            cpu.ief2 as u32,
+            u32::from(cpu.ix),
+            u32::from(cpu.iy),
+            u32::from(cpu.sp),
+            u32::from(cpu.pc),
+            u32::from(cpu.i),
+            u32::from(cpu.r),
+            u32::from(cpu.ief1),
+            u32::from(cpu.ief2),
             im,
             mode,
-            cpu.ei as u32,
-            cpu.il as u32,
-            cpu.itc as u32,
-            cpu.icr as u32,
+            u32::from(cpu.ei),
+            u32::from(cpu.il),
+            u32::from(cpu.itc),
+            u32::from(cpu.icr),
         ]
     }
 
@@ -93,22 +93,22 @@ impl Outcome {
         let [cell1, cell2, cell3] = self.cells;
         let [code1, code2, code3, code4] = self.code;
         [
-            self.window.cbar as u32,
-            self.window.cbr as u32,
-            self.window.bbr as u32,
+            u32::from(self.window.cbar),
+            u32::from(self.window.cbr),
+            u32::from(self.window.bbr),
             kind,
             port,
             byte,
             self.cost.cycles,
             self.cost.states,
-            cell1 as u32,
-            cell2 as u32,
-            cell3 as u32,
-            code1 as u32,
-            code2 as u32,
-            code3 as u32,
-            code4 as u32,
-            self.astray as u32,
+            u32::from(cell1),
+            u32::from(cell2),
+            u32::from(cell3),
+            u32::from(code1),
+            u32::from(code2),
+            u32::from(code3),
+            u32::from(code4),
+            u32::from(self.astray),
         ]
     }
 }

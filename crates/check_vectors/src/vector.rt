@@ -29,6 +29,8 @@ pub struct Vector {
 }
 
 impl Reader<'_> {
+    // Matched where it is read, as the digits of state.rt are. Their enums are other crates', so no TryFrom can be written
+    // for them here, and of a TryFrom the Option would drop the error.
     fn source(&mut self) -> Option<Source> {
         match self.digit()? {
             1 => Some(Source::Z80ex),

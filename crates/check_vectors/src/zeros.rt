@@ -3,6 +3,7 @@ use crate::outcome::Outcome;
 use crate::trial::stepped;
 use crate::vector::Vector;
 use anyhow::anyhow;
+use denial::Denial;
 use memory::bank::Bank;
 use memory::length::BoardLength;
 use std::alloc::Global;
@@ -24,20 +25,18 @@ fn any(bytes: &[u8]) -> bool {
 impl Zeros {
     pub fn new(heap: Global) -> anyhow::Result<Zeros> {
         let bytes = vec![in heap; 0; BYTES]?;
-        let Ok(size) = BoardLength::of_bank(&bytes) else {
-            return Err(anyhow!("the bank is too long"));
-        };
+        let size = BoardLength::of_bank(&bytes).map_err(|_| anyhow!("the bank is too long"))?;
         Ok(Zeros { bytes, size })
     }
 
-    // What a step makes of a vector.
-    pub fn outcome(&mut self, vector: &Vector) -> Outcome {
+    // What a step makes of a vector, or why there is none.
+    pub fn outcome(&mut self, vector: &Vector) -> Result<Outcome, Denial> {
         let bytes = self.bytes.as_mut_slice();
         let outcome = stepped(Bank::new(bytes, self.size), vector);
         let astray = any(bytes);
         if astray {
             bytes.fill(0);
         }
-        Outcome { astray, ..outcome }
+        Ok(Outcome { astray, ..outcome? })
     }
 }
