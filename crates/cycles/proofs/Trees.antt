@@ -9,7 +9,7 @@ use Rattle.registers.specs.declared.window.Window.{Window}
 use Rattle.registers.specs.Window.{OpensOn, page_of, physical_of}
 use Rattle.registers.proofs.Opened as opened
 use Rattle.cycles.specs.Tree.{Cycles, Cycles.done, Cycles.fetch, Cycles.read, Cycles.write, Cycles.input, Cycles.output, Cycles.acknowledge, Cycles.internal}
-use Rattle.cycles.specs.Play.{Began, World, access, acknowledging, answer_of, asked, byte_at, play, sent, stored, waited}
+use Rattle.cycles.specs.Play.{Began, Played, World, access, acknowledging, answer_of, asked, byte_at, play, sent, stored, waited}
 use Rattle.cycles.specs.Footprint.{Few, Kept, OpensWithin, Same, TouchesOnly, TreeLaws, on_pages, with_memory}
 
 pub kept_none : (set : ℕ → Bool) (m : Mem) → Kept set m m
@@ -25,22 +25,36 @@ kept_store set m a b in-set = record {
   takes = λ x. refl;
 }
 
+-- what was kept before two plays is kept with them
+same_then : {A S : Type 0} (set : ℕ → Bool) (k l m n : Mem) (one other : Played A S) → Kept set k m → Kept set l n → Same set m n one other → Same set k l one other
+same_then set k l m n one other h h' same = record {
+  value = same.value;
+  panel = same.panel;
+  tally = same.tally;
+  memory = same.memory;
+  first = kept_then set k m one.world.mem h same.first;
+  second = kept_then set l n other.world.mem h' same.second;
+}
+
 module _ {S : Type 0} (make : Make S) where
-  same : {A : Type 0} {n : ℕ} (set : ℕ → Bool) (began : Began) (tree : Cycles A n) (v : World S) (m : Mem) → TouchesOnly set make began tree v → Agree set v.mem m → Same set (play make began tree v) (play make began tree (with_memory m v))
-  same set began (done x) v m touches agree = record { value = refl; panel = refl; tally = refl; memory = agree }
+  same : {A : Type 0} {n : ℕ} (set : ℕ → Bool) (began : Began) (tree : Cycles A n) (v : World S) (m : Mem) → TouchesOnly set make began tree v → Agree set v.mem m → Same set v.mem m (play make began tree v) (play make began tree (with_memory m v))
+  same set began (done x) v m touches agree = record { value = refl; panel = refl; tally = refl; memory = agree; first = kept_none set v.mem; second = kept_none set m }
   same set began (fetch code a next) v m touches agree =
       let at = physical_of began.window a in
       let on = waited access v in
-      subst (λ b. Same set (play make began (next (byte_at began a v)) on) (play make began (next b) (with_memory m on))) (agree at touches.0).0
+      subst (λ b. Same set v.mem m (play make began (next (byte_at began a v)) on) (play make began (next b) (with_memory m on))) (agree at touches.0).0
       (same set began (next (byte_at began a v)) on m touches.1 agree)
   same set began (read a next) v m touches agree =
       let at = physical_of began.window a in
       let on = waited access v in
-      subst (λ b. Same set (play make began (next (byte_at began a v)) on) (play make began (next b) (with_memory m on))) (agree at touches.0).0
+      subst (λ b. Same set v.mem m (play make began (next (byte_at began a v)) on) (play make began (next b) (with_memory m on))) (agree at touches.0).0
       (same set began (next (byte_at began a v)) on m touches.1 agree)
   same set began (write a b next) v m touches agree =
       let at = physical_of began.window a in
-      same set began next (stored began a b v) (store m at b) touches.1 ((stores.laws).agreement set v.mem m at b touches.0 agree)
+      let on = stored began a b v in
+      let m' = store m at b in
+      same_then set v.mem m on.mem m' (play make began next on) (play make began next (with_memory m' on)) (kept_store set v.mem at b touches.0) (kept_store set m at b touches.0)
+      (same set began next on m' touches.1 ((stores.laws).agreement set v.mem m at b touches.0 agree))
   same set began (input p next) v m touches agree =
       same set began (next (answer_of make v.panel p)) (asked make p v) m touches agree
   same set began (output p b next) v m touches agree =
@@ -49,6 +63,26 @@ module _ {S : Type 0} (make : Make S) where
       same set began next (acknowledging make line states v) m touches agree
   same set began (internal states next) v m touches agree =
       same set began next (waited states v) m touches agree
+
+  touched : {A : Type 0} {n : ℕ} (set : ℕ → Bool) (began : Began) (tree : Cycles A n) (v : World S) (m : Mem) → TouchesOnly set make began tree v → Agree set v.mem m → TouchesOnly set make began tree (with_memory m v)
+  touched set began (done x) v m touches agree = tt
+  touched set began (fetch code a next) v m touches agree =
+      let on = waited access v in
+      (touches.0, subst (λ b. TouchesOnly set make began (next b) (with_memory m on)) (agree (physical_of began.window a) touches.0).0 (touched set began (next (byte_at began a v)) on m touches.1 agree))
+  touched set began (read a next) v m touches agree =
+      let on = waited access v in
+      (touches.0, subst (λ b. TouchesOnly set make began (next b) (with_memory m on)) (agree (physical_of began.window a) touches.0).0 (touched set began (next (byte_at began a v)) on m touches.1 agree))
+  touched set began (write a b next) v m touches agree =
+      let at = physical_of began.window a in
+      (touches.0, touched set began next (stored began a b v) (store m at b) touches.1 ((stores.laws).agreement set v.mem m at b touches.0 agree))
+  touched set began (input p next) v m touches agree =
+      touched set began (next (answer_of make v.panel p)) (asked make p v) m touches agree
+  touched set began (output p b next) v m touches agree =
+      touched set began next (sent make p b v) m touches agree
+  touched set began (acknowledge line states next) v m touches agree =
+      touched set began next (acknowledging make line states v) m touches agree
+  touched set began (internal states next) v m touches agree =
+      touched set began next (waited states v) m touches agree
 
   kept : {A : Type 0} {n : ℕ} (set : ℕ → Bool) (began : Began) (tree : Cycles A n) (v : World S) → TouchesOnly set make began tree v → Kept set v.mem (play make began tree v).world.mem
   kept set began (done x) v touches = kept_none set v.mem
@@ -131,4 +165,4 @@ module _ {S : Type 0} (make : Make S) where
       few began next (waited states v)
 
   pub laws : (A : Type 0) → TreeLaws A make
-  laws A = record { same = same make; kept = kept make; within = within make; few = few }
+  laws A = record { same = same make; touches = touched make; kept = kept make; within = within make; few = few }
