@@ -5,28 +5,28 @@ use Rattle.panel.specs.Panel.{Make}
 use Rattle.registers.specs.declared.window.Window.{Window}
 use Rattle.registers.specs.Window.{OpensOn, page_of, physical_of, shown_page}
 use Rattle.cycles.specs.Tree.{Cycles, Cycles.done, Cycles.fetch, Cycles.read, Cycles.write, Cycles.input, Cycles.output, Cycles.acknowledge, Cycles.internal}
-use Rattle.cycles.specs.Play.{Began, Played, World, access, acknowledging, answer_of, asked, byte_at, play, sent, stored, waited, world}
+use Rattle.cycles.specs.Play.{Began, Played, World, answer_of, byte_at, play, world, world_after}
 
 -- Every address that playing the tree reads, or tries to write, lies in a set.
 abbrev pub TouchesOnly : {A S : Type 0} {n : ℕ} → (ℕ → Bool) → Make S → Began → Cycles A n → World S → Type 0
 TouchesOnly set make began (done x) v = Unit {0}
 TouchesOnly set make began (fetch code a next) v =
     (set (physical_of began.window a) ≡ true)
-    × TouchesOnly set make began (next (byte_at began a v)) (waited access v)
+    × TouchesOnly set make began (next (byte_at began a v)) (world_after make began (fetch code a next) v)
 TouchesOnly set make began (read a next) v =
     (set (physical_of began.window a) ≡ true)
-    × TouchesOnly set make began (next (byte_at began a v)) (waited access v)
+    × TouchesOnly set make began (next (byte_at began a v)) (world_after make began (read a next) v)
 TouchesOnly set make began (write a b next) v =
     (set (physical_of began.window a) ≡ true)
-    × TouchesOnly set make began next (stored began a b v)
+    × TouchesOnly set make began next (world_after make began (write a b next) v)
 TouchesOnly set make began (input p next) v =
-    TouchesOnly set make began (next (answer_of make v.panel p)) (asked make p v)
+    TouchesOnly set make began (next (answer_of make v.panel p)) (world_after make began (input p next) v)
 TouchesOnly set make began (output p b next) v =
-    TouchesOnly set make began next (sent make p b v)
+    TouchesOnly set make began next (world_after make began (output p b next) v)
 TouchesOnly set make began (acknowledge line states next) v =
-    TouchesOnly set make began next (acknowledging make line states v)
+    TouchesOnly set make began next (world_after make began (acknowledge line states next) v)
 TouchesOnly set make began (internal states next) v =
-    TouchesOnly set make began next (waited states v)
+    TouchesOnly set make began next (world_after make began (internal states next) v)
 
 -- From one memory to another, no address outside a set has changed, and none has come to take writes or ceased to.
 pub record Kept (set : ℕ → Bool) (before after : Mem) : Type 0 where
