@@ -7,7 +7,8 @@ use Rattle.cycles.specs.Footprint.{Few, OpensWithin, on_pages}
 use Rattle.cycles.specs.Play.{no_time, world}
 use Rattle.cycles.proofs.Trees as trees
 use Rattle.processor.specs.Interrupt.{accepted}
-use Rattle.processor.specs.Seclusion.{Alike, Both, IfTaken, StepLaws}
+use Rattle.processor.specs.Isolation.{Alike, IfTaken}
+use Rattle.processor.specs.Seclusion.{Both, StepLaws}
 use Rattle.processor.specs.Step.{Model, Turn, began, cycles_of, denied, no_restart, step, taken}
 
 -- the same card over another memory
