@@ -3,7 +3,7 @@ use Rattle.std.specs.Prelude.{◌≡◌, ℕ, true, false, List, [], ◌∷◌}
 use Rattle.panel.specs.Panel.{Make}
 use Rattle.panel.specs.Script.{script_make}
 use Rattle.registers.specs.Registers.{Processor}
-use Rattle.cycles.specs.Play.{Began, World, access, acknowledging, answer_of, asked, byte_at, no_time, sent, stored, waited, world}
+use Rattle.cycles.specs.Play.{Began, World, answer_of, byte_at, no_time, world, world_after}
 use Rattle.cycles.specs.Tree.{Cycles, Cycles.done, Cycles.fetch, Cycles.read, Cycles.write, Cycles.input, Cycles.output, Cycles.acknowledge, Cycles.internal}
 use Rattle.processor.specs.Step.{Model, began, cycles_of}
 use Rattle.processor_laws.specs.Bench.{card, memory_with, quiet}
@@ -13,13 +13,13 @@ use Rattle.processor_laws.specs.Interrupts.{asking_make, panel_asks, ready}
 -- The logical addresses that a row of cycles uses, in order.
 abbrev pub used : {S : Type 0} {n : ℕ} → Make S → Began → Cycles Processor n → World S → List ℕ
 used make w (done p) v = []
-used make w (fetch code a next) v = a ∷ used make w (next (byte_at w a v)) (waited access v)
-used make w (read a next) v = a ∷ used make w (next (byte_at w a v)) (waited access v)
-used make w (write a b next) v = a ∷ used make w next (stored w a b v)
-used make w (input p next) v = used make w (next (answer_of make v.panel p)) (asked make p v)
-used make w (output p b next) v = used make w next (sent make p b v)
-used make w (acknowledge line states next) v = used make w next (acknowledging make line states v)
-used make w (internal states next) v = used make w next (waited states v)
+used make w (fetch code a next) v = a ∷ used make w (next (byte_at w a v)) (world_after make w (fetch code a next) v)
+used make w (read a next) v = a ∷ used make w (next (byte_at w a v)) (world_after make w (read a next) v)
+used make w (write a b next) v = a ∷ used make w next (world_after make w (write a b next) v)
+used make w (input p next) v = used make w (next (answer_of make v.panel p)) (world_after make w (input p next) v)
+used make w (output p b next) v = used make w next (world_after make w (output p b next) v)
+used make w (acknowledge line states next) v = used make w next (world_after make w (acknowledge line states next) v)
+used make w (internal states next) v = used make w next (world_after make w (internal states next) v)
 
 abbrev pub used_by : {S : Type 0} → Make S → Model S → List ℕ
 used_by make c = used make (began c) (cycles_of make c) (world c.mem c.panel no_time)

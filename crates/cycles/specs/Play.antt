@@ -1,7 +1,6 @@
 -- What playing a tree of machine cycles does to memory and panel, and how long it takes. Assumes nothing.
 use Rattle.std.specs.Prelude.{ℕ, ◌+◌}
 use Rattle.memory.specs.Memory.{Mem, store}
-use Rattle.panel.specs.declared.line.Line.{Line}
 use Rattle.panel.specs.Panel.{Make, wrote}
 use Rattle.registers.specs.declared.window.Window.{Window}
 use Rattle.registers.specs.Window.{physical_of}
@@ -22,10 +21,6 @@ no_time = record { cycles = 0; states = 0 }
 -- One more cycle, of so many states.
 abbrev pub after_cycle : ℕ → Tally → Tally
 after_cycle states t = record { cycles = t.cycles + 1; states = t.states + states }
-
--- How many states an access to memory, a port or an instruction's byte takes.
-abbrev pub access : ℕ
-access = 3
 
 -- What a port answers, and the panel's state after an input and after an output. Internal ports do not reach the panel, and a
 -- full panel keeps its state.
@@ -58,36 +53,44 @@ world m s t = record { mem = m; panel = s; tally = t }
 abbrev pub byte_at : {S : Type 0} → Began → ℕ → World S → ℕ
 byte_at began a v = v.mem.byte (physical_of began.window a)
 
--- The world after a cycle of each kind: one that alters nothing, a write, an input, an output, an acknowledgement.
-abbrev pub waited : {S : Type 0} → ℕ → World S → World S
-waited states v = world v.mem v.panel (after_cycle states v.tally)
+-- What the first cycle of a tree does to memory, and to the panel's state.
+abbrev pub mem_after : {A : Type 0} {n : ℕ} → Began → Cycles A n → Mem → Mem
+mem_after began (write a b next) m = store m (physical_of began.window a) b
+mem_after began another m = m
 
-abbrev pub stored : {S : Type 0} → Began → ℕ → ℕ → World S → World S
-stored began a b v = world (store v.mem (physical_of began.window a) b) v.panel (after_cycle access v.tally)
+abbrev pub panel_after : {A S : Type 0} {n : ℕ} → Make S → Cycles A n → S → S
+panel_after make (input p next) s = after_input make s p
+panel_after make (output p b next) s = after_output make s p b
+panel_after make (acknowledge line states next) s = make.acknowledged s line
+panel_after make another s = s
 
-abbrev pub asked : {S : Type 0} → Make S → Port → World S → World S
-asked make p v = world v.mem (after_input make v.panel p) (after_cycle access v.tally)
+-- How many states it takes: an access to memory, a port or an instruction's byte three, any other as many as its node says.
+abbrev pub states_of : {A : Type 0} {n : ℕ} → Cycles A n → ℕ
+states_of (done x) = 0
+states_of (acknowledge line states next) = states
+states_of (internal states next) = states
+states_of an_access = 3
 
-abbrev pub sent : {S : Type 0} → Make S → Port → ℕ → World S → World S
-sent make p b v = world v.mem (after_output make v.panel p b) (after_cycle access v.tally)
-
-abbrev pub acknowledging : {S : Type 0} → Make S → Line → ℕ → World S → World S
-acknowledging make line states v = world v.mem (make.acknowledged v.panel line) (after_cycle states v.tally)
+-- The world after that cycle.
+abbrev pub world_after : {A S : Type 0} {n : ℕ} → Make S → Began → Cycles A n → World S → World S
+world_after make began (done x) v = v
+world_after make began tree v =
+    world (mem_after began tree v.mem) (panel_after make tree v.panel) (after_cycle (states_of tree) v.tally)
 
 -- The tree, played. Logical addresses become physical only here.
 abbrev pub play : {A S : Type 0} {n : ℕ} → Make S → Began → Cycles A n → World S → Played A S
 play make began (done x) v = record { value = x; world = v }
 play make began (fetch code a next) v =
-    play make began (next (byte_at began a v)) (waited access v)
+    play make began (next (byte_at began a v)) (world_after make began (fetch code a next) v)
 play make began (read a next) v =
-    play make began (next (byte_at began a v)) (waited access v)
+    play make began (next (byte_at began a v)) (world_after make began (read a next) v)
 play make began (write a b next) v =
-    play make began next (stored began a b v)
+    play make began next (world_after make began (write a b next) v)
 play make began (input p next) v =
-    play make began (next (answer_of make v.panel p)) (asked make p v)
+    play make began (next (answer_of make v.panel p)) (world_after make began (input p next) v)
 play make began (output p b next) v =
-    play make began next (sent make p b v)
+    play make began next (world_after make began (output p b next) v)
 play make began (acknowledge line states next) v =
-    play make began next (acknowledging make line states v)
+    play make began next (world_after make began (acknowledge line states next) v)
 play make began (internal states next) v =
-    play make began next (waited states v)
+    play make began next (world_after make began (internal states next) v)

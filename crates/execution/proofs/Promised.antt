@@ -6,7 +6,8 @@ use Rattle.cycles.specs.Footprint.{Few}
 use Rattle.cycles.specs.Play.{Tally}
 use Rattle.processor.proofs.Steps as steps
 use Rattle.processor.specs.Interrupt.{accepted}
-use Rattle.processor.specs.Seclusion.{Both, IfTaken}
+use Rattle.processor.specs.Isolation.{IfTaken}
+use Rattle.processor.specs.Seclusion.{Both}
 use Rattle.processor.specs.Step.{Faulted, Model, Turn, denied, no_restart, step}
 use Rattle.execution.specs.Steps.{Secluded, over, took_line}
 
@@ -24,7 +25,7 @@ module _ {S : Type 0} (make : Make S) (c : Model S) where
       ((steps.laws make).both pages c (over n c) (record { processor = refl; panel = refl; memory = agree }) (if_taken (step make c).answer _ within))
 
   -- all that a step promises, once it is the definition's
-  pub kept : (t : Turn S) → t ≡ step make c → record {turn : t ≡ step make c; few : Few c.processor.window 2 c.mem t.card.mem; secluded : Secluded make c t}
+  pub kept : (t : Turn S) → t ≡ step make c → record { turn : t ≡ step make c; few : Few c.processor.window 2 c.mem t.card.mem; secluded : Secluded make c t }
   kept t e = record { turn = e; few = few t e; secluded = secluded t e }
 
   bad : (l : Option Line) (b : Bool) → l ≡ accepted make c.panel c.processor.cpu → b ≡ no_restart l c.processor.cpu.im (make.int0_byte c.panel) → b ≡ steps.bad_byte make c

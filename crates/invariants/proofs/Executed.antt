@@ -20,7 +20,7 @@ use Rattle.decoder.specs.Main as main
 use Rattle.beginning.specs.declared.Beginning.{Beginning}
 use Rattle.beginning.specs.declared.Beginning.TheVariants as code
 use Rattle.beginning.specs.Beginning as beginning
-use Rattle.cycles.specs.Play.{Began, World, access, byte_at, waited}
+use Rattle.cycles.specs.Play.{Began, World, after_cycle, byte_at, world}
 use Rattle.cycles.specs.Tree.{Cycles}
 use Rattle.processor.specs.Instruction as instruction
 use Rattle.invariants.specs.Fetches.{bytes_in}
@@ -35,6 +35,10 @@ use Rattle.invariants.proofs.Orderly.{Orderly, Room, weaken}
 -- an opcode byte was read
 abbrev pub opened : Processor → Processor
 opened p = on_cpu (λ r. with_r (counted r.r) (with_pc (up r.pc 1) r)) p
+
+-- the world then
+abbrev behind_byte : {S : Type 0} → World S → World S
+behind_byte v = world v.mem v.panel (after_cycle 3 v.tally)
 
 opened_same : (p : Processor) → Same p.cpu (opened p).cpu
 opened_same p = same (counted_bit p.cpu.r) refl refl
@@ -104,7 +108,7 @@ module _ {S : Type 0} (make : Make S) (began : Began) (s : S) where
   index_two second.BitsPrefix i b0 b1 b2 p v room h =
       let b3 = byte_at began (up (up (up p.cpu.pc 1) 1) 1) v in
       let d = byte_at began (up (up p.cpu.pc 1) 1) v in
-      let k = or_four (indexed_cb.decoded i b3) b0 b1 b2 b3 d (up p.cpu.pc 2) p (waited access (waited access v)) room (cb_pages.indexed_page make began s i b3) in
+      let k = or_four (indexed_cb.decoded i b3) b0 b1 b2 b3 d (up p.cpu.pc 2) p (behind_byte (behind_byte v)) room (cb_pages.indexed_page make began s i b3) in
       (k.0, k.1, (k.2, refl, (k.3, refl, k.4)))
   index_two second.Undefined i b0 b1 b2 p v room h = (tt, tt, keeps (then (opened_twice p) (same refl refl refl)))
 
@@ -112,15 +116,15 @@ module _ {S : Type 0} (make : Make S) (began : Began) (s : S) where
   page_one : (x : Page) (b0 b2 : ℕ) (p : Processor) (v : World S) → Room make began s v → One (beginning.behind x (four b0 (byte_at began (up p.cpu.pc 1) v) b2 (byte_at began (up (up (up p.cpu.pc 1) 1) 1) v)) (byte_at began (up p.cpu.pc 1) v)) p (instruction.on_page x p.cpu.pc (opened p)) v
   page_one page.Bits b0 b2 p v room =
       let b = byte_at began (up p.cpu.pc 1) v in
-      let k = or_two (cb.decoded b) b0 b b2 (byte_at began (up (up (up p.cpu.pc 1) 1) 1) v) (up p.cpu.pc 1) p (waited access v) room (cb_pages.page make began s b) in
+      let k = or_two (cb.decoded b) b0 b b2 (byte_at began (up (up (up p.cpu.pc 1) 1) 1) v) (up p.cpu.pc 1) p (behind_byte v) room (cb_pages.page make began s b) in
       (k.0, (k.1, refl, k.2))
   page_one page.Extended b0 b2 p v room =
       let b = byte_at began (up p.cpu.pc 1) v in
-      let k = or_two (ed.decoded b) b0 b b2 (byte_at began (up (up (up p.cpu.pc 1) 1) 1) v) (up p.cpu.pc 1) p (waited access v) room (ed_page.page make began s b) in
+      let k = or_two (ed.decoded b) b0 b b2 (byte_at began (up (up (up p.cpu.pc 1) 1) 1) v) (up p.cpu.pc 1) p (behind_byte v) room (ed_page.page make began s b) in
       (k.0, (k.1, refl, k.2))
   page_one (page.Indexed i) b0 b2 p v room =
       let b = byte_at began (up p.cpu.pc 1) v in
-      let k = index_two (indexed.decoded i b) i b0 b b2 p (waited access v) room (indexed_page.page make began s i b) in
+      let k = index_two (indexed.decoded i b) i b0 b b2 p (behind_byte v) room (indexed_page.page make began s i b) in
       (k.0, (k.1, refl, k.2))
 
   first_one : (f : First) (b0 b2 : ℕ) (p : Processor) (v : World S) → Room make began s v → forms.FirstFits make began s f → One (beginning.from_first (four b0 (byte_at began (up p.cpu.pc 1) v) b2 (byte_at began (up (up (up p.cpu.pc 1) 1) 1) v)) f) p (instruction.behind_first f p.cpu.pc (opened p)) v
@@ -137,5 +141,5 @@ module _ {S : Type 0} (make : Make S) (began : Began) (s : S) where
   pub executed_goes : (p : Processor) (v : World S) → Room make began s v → Goes (Some (beginning.beginning (code_from p v (up (up (up p.cpu.pc 1) 1) 1)))) p 0 p.cpu.pc (instruction.executed p) v
   executed_goes p v room =
       let b = byte_at began p.cpu.pc v in
-      let k = first_one (main.decoded b) b (byte_at began (up p.cpu.pc 2) v) p (waited access v) room (main_page.page make began s b) in
+      let k = first_one (main.decoded b) b (byte_at began (up p.cpu.pc 2) v) p (behind_byte v) room (main_page.page make began s b) in
       (k.0, refl, k.1)

@@ -5,7 +5,7 @@ use Rattle.registers.specs.Registers.{up}
 use Rattle.instructions.specs.Length.{length}
 use Rattle.beginning.specs.declared.Beginning.{Beginning}
 use Rattle.beginning.specs.declared.Beginning.TheVariants.{CutEnd, Instruction, UndefinedSecond, UndefinedThird}
-use Rattle.cycles.specs.Play.{Began, World, access, acknowledging, answer_of, asked, byte_at, no_time, sent, stored, waited, world}
+use Rattle.cycles.specs.Play.{Began, World, answer_of, byte_at, no_time, world, world_after}
 use Rattle.cycles.specs.Tree.{Cycles, Cycles.acknowledge, Cycles.done, Cycles.fetch, Cycles.input, Cycles.internal, Cycles.output, Cycles.read, Cycles.write}
 use Rattle.processor.specs.Step.{Model, began, cycles_of}
 use Rattle.invariants.specs.Executing.{executed_by}
@@ -23,19 +23,19 @@ bytes_in None = 0
 abbrev pub FetchesBelow : {A S : Type 0} {m : ℕ} → ℕ → ℕ → ℕ → Make S → Began → Cycles A m → World S → Type 0
 FetchesBelow n pc k make began (done x) v = Unit {0}
 FetchesBelow n pc k make began (fetch code a next) v =
-    (k < n) × (a % 65536 ≡ up pc k) × FetchesBelow n pc (k + 1) make began (next (byte_at began a v)) (waited access v)
+    (k < n) × (a % 65536 ≡ up pc k) × FetchesBelow n pc (k + 1) make began (next (byte_at began a v)) (world_after make began (fetch code a next) v)
 FetchesBelow n pc k make began (read a next) v =
-    FetchesBelow n pc k make began (next (byte_at began a v)) (waited access v)
+    FetchesBelow n pc k make began (next (byte_at began a v)) (world_after make began (read a next) v)
 FetchesBelow n pc k make began (write a b next) v =
-    FetchesBelow n pc k make began next (stored began a b v)
+    FetchesBelow n pc k make began next (world_after make began (write a b next) v)
 FetchesBelow n pc k make began (input p next) v =
-    FetchesBelow n pc k make began (next (answer_of make v.panel p)) (asked make p v)
+    FetchesBelow n pc k make began (next (answer_of make v.panel p)) (world_after make began (input p next) v)
 FetchesBelow n pc k make began (output p b next) v =
-    FetchesBelow n pc k make began next (sent make p b v)
+    FetchesBelow n pc k make began next (world_after make began (output p b next) v)
 FetchesBelow n pc k make began (acknowledge line states next) v =
-    FetchesBelow n pc k make began next (acknowledging make line states v)
+    FetchesBelow n pc k make began next (world_after make began (acknowledge line states next) v)
 FetchesBelow n pc k make began (internal states next) v =
-    FetchesBelow n pc k make began next (waited states v)
+    FetchesBelow n pc k make began next (world_after make began (internal states next) v)
 
 abbrev pub FetchesInOrder : {S : Type 0} → Make S → Type 0
 FetchesInOrder {S} make =

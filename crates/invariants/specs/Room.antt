@@ -1,7 +1,7 @@
 -- A step that is not denied meets no output while the panel is full, so that no write to it is lost. Assumes nothing.
 use Rattle.std.specs.Prelude.{◌≡◌, ℕ, false, Ok}
 use Rattle.panel.specs.Panel.{Make}
-use Rattle.cycles.specs.Play.{Began, Tally, World, access, acknowledging, answer_of, asked, byte_at, no_time, sent, stored, waited, world}
+use Rattle.cycles.specs.Play.{Began, Tally, World, answer_of, byte_at, no_time, world, world_after}
 use Rattle.cycles.specs.Tree.{Cycles, Cycles.acknowledge, Cycles.done, Cycles.fetch, Cycles.input, Cycles.internal, Cycles.output, Cycles.read, Cycles.write}
 use Rattle.processor.specs.Step.{Model, began, cycles_of, step}
 
@@ -9,19 +9,19 @@ use Rattle.processor.specs.Step.{Model, began, cycles_of, step}
 abbrev pub FindsRoom : {A S : Type 0} {m : ℕ} → Make S → Began → Cycles A m → World S → Type 0
 FindsRoom make began (done x) v = Unit {0}
 FindsRoom make began (fetch code a next) v =
-    FindsRoom make began (next (byte_at began a v)) (waited access v)
+    FindsRoom make began (next (byte_at began a v)) (world_after make began (fetch code a next) v)
 FindsRoom make began (read a next) v =
-    FindsRoom make began (next (byte_at began a v)) (waited access v)
+    FindsRoom make began (next (byte_at began a v)) (world_after make began (read a next) v)
 FindsRoom make began (write a b next) v =
-    FindsRoom make began next (stored began a b v)
+    FindsRoom make began next (world_after make began (write a b next) v)
 FindsRoom make began (input p next) v =
-    FindsRoom make began (next (answer_of make v.panel p)) (asked make p v)
+    FindsRoom make began (next (answer_of make v.panel p)) (world_after make began (input p next) v)
 FindsRoom make began (output p b next) v =
-    (make.full v.panel ≡ false) × FindsRoom make began next (sent make p b v)
+    (make.full v.panel ≡ false) × FindsRoom make began next (world_after make began (output p b next) v)
 FindsRoom make began (acknowledge line states next) v =
-    FindsRoom make began next (acknowledging make line states v)
+    FindsRoom make began next (world_after make began (acknowledge line states next) v)
 FindsRoom make began (internal states next) v =
-    FindsRoom make began next (waited states v)
+    FindsRoom make began next (world_after make began (internal states next) v)
 
 abbrev pub StepFindsRoom : {S : Type 0} → Make S → Model S → Type 0
 StepFindsRoom make c = FindsRoom make (began c) (cycles_of make c) (world c.mem c.panel no_time)

@@ -9,10 +9,9 @@ use Rattle.registers.specs.Window.{physical_of}
 use Rattle.cycles.specs.Footprint.{Kept, OpensWithin, on_pages}
 use Rattle.cycles.specs.Play.{Tally, no_time}
 use Rattle.cycles.proofs.Trees as trees
-use Rattle.processor.specs.Isolation.{ChangesFew, Each, Isolated, Isolation, LookWithin, StaysWithin, StepWithin}
+use Rattle.processor.specs.Isolation.{Alike, ChangesFew, Each, Isolated, Isolation, LookWithin, StaysWithin, StepWithin}
 use Rattle.processor.specs.Log.{Answer.ran, Answer.saw, Answer.stepped, Call, Call.looking, Call.resetting, Call.running, Call.stepping, Line, after_run, line, made, replay_from, serve}
 use Rattle.processor.specs.Run.{Finished, Stop, Stop.fault, Stop.halted, Stop.spent, after_answer, finished, goes_on, is_budget, is_look, looked, rests, run, run_on, sum_of}
-use Rattle.processor.specs.Seclusion.{Alike}
 use Rattle.processor.specs.Step.{Faulted, Model, step}
 use Rattle.processor.proofs.Steps as steps
 use Rattle.processor.proofs.Steps.{with_mem}

@@ -7,7 +7,8 @@ use Rattle.cycles.specs.Footprint.{Few, OpensWithin, on_pages}
 use Rattle.cycles.specs.Play.{no_time, world}
 use Rattle.cycles.proofs.Trees as trees
 use Rattle.processor.specs.Interrupt.{accepted}
-use Rattle.processor.specs.Seclusion.{Alike, Both, IfTaken, StepLaws}
+use Rattle.processor.specs.Isolation.{Alike, IfTaken}
+use Rattle.processor.specs.Seclusion.{Both, StepLaws}
 use Rattle.processor.specs.Step.{Model, Turn, began, cycles_of, denied, no_restart, step, taken}
 
 -- the same card over another memory
@@ -20,15 +21,13 @@ module _ {S : Type 0} (make : Make S) where
       let set = on_pages pages in
       let tree = cycles_of make c in
       let one = world c.mem c.panel no_time in
-      let other = world m c.panel no_time in
       let laws = trees.laws make Processor in
-      let touches = laws.within pages (began c) tree one shown in
-      let same = laws.same set (began c) tree one m touches agree in
+      let same = laws.same set (began c) tree one m (laws.within pages (began c) tree one shown) agree in
       record {
         answer = ap Ok same.tally;
         alike = record { processor = same.value; panel = ap₂ (λ s t. make.told s t.states) same.panel same.tally; memory = same.memory };
-        first = laws.kept set (began c) tree one touches;
-        second = laws.kept set (began c) tree other (laws.within pages (began c) tree other shown);
+        first = same.first;
+        second = same.second;
       }
 
   denied_both : (pages : ℕ → Bool) (c : Model S) (m : Mem) (number : ℕ) → Agree (on_pages pages) c.mem m → Both pages c (with_mem m c) (denied number c) (denied number (with_mem m c))

@@ -8,19 +8,46 @@
 -- that denials give and the bytes of looks; registers and panel states are equal; the memories agree on the set; no byte outside
 -- it has changed in either; and every step so far of either card, also inside a run, has changed at most two bytes, each in a
 -- page that was mapped as it began. Assumes nothing.
-use Rattle.std.specs.Prelude.{◌≡◌, ℕ, Bool, true, List, [], ◌∷◌, take}
+--
+-- What this file takes from others, in plain words:
+--   Agree set m n (memory/specs/Memory): at each address of the set m and n have the same byte, and both take writes or neither.
+--   on_pages pages (cycles/specs/Footprint): the addresses 0 to 524,287 whose page, the address / 4,096, is in pages.
+--   OpensWithin pages w (Footprint): each of the sixteen pages that the window w shows is in pages.
+--   Kept set m n (Footprint): from m to n no address outside the set has another byte, and each takes writes as it did.
+--   Few w k m n (Footprint): from m to n at most k bytes have changed, each in a page that w shows; writes are taken as before.
+--   Make S (panel/specs/Panel): what a panel, with states of type S, answers and does.
+--   Model (Step): a card: its registers and window, its memory, and its panel's state.
+--   Stepped (Run): one step: the card before it, its answer, and the card after it. The answer is a Tally (cycles/specs/Play),
+--     the cycles and states that it took, or Faulted (Step) if it was denied: the denial, and where PC stood.
+--   is_look w n (Run): both bases of w are at most 127, and n is at most 4,096. Any other look is denied.
+--   Call (Log): a step, a run with its budget, a reset, or a look through a window from an address on, of so many bytes.
+--   serve make call c (Log): one call on the card c: its answer, the card after it, and each step that was taken in it.
+--   made m s (Log): a card just made of the memory m and the panel's state s, its registers as after reset.
+--   replay make calls m s (Log): all the calls in turn on that card: the answers, the card after them, and each step.
+use Rattle.std.specs.Prelude.{◌≡◌, ℕ, Bool, true, List, [], ◌∷◌, take, Ok, Err, Result}
 use Rattle.memory.specs.Memory.{Agree, Mem}
 use Rattle.panel.specs.Panel.{Make}
 use Rattle.cycles.specs.Footprint.{Few, Kept, OpensWithin, on_pages}
+use Rattle.cycles.specs.Play.{Tally}
 use Rattle.processor.specs.Log.{Call, Call.looking, Call.resetting, Call.running, Call.stepping, Replayed, made, replay, serve}
 use Rattle.processor.specs.Run.{Stepped, is_look}
-use Rattle.processor.specs.Seclusion.{Alike, IfTaken}
-use Rattle.processor.specs.Step.{Model}
+use Rattle.processor.specs.Step.{Faulted, Model}
+
+-- Two cards differ at most in the memory outside a set of pages.
+pub record Alike {S : Type 0} (pages : ℕ → Bool) (c d : Model S) : Type 0 where
+  pub processor : c.processor ≡ d.processor
+  pub panel : c.panel ≡ d.panel
+  pub memory : Agree (on_pages pages) c.mem d.mem
 
 -- Something holds of each item of a list.
 abbrev pub Each : {X : Type 0} → (X → Type 0) → List X → Type 0
 Each P [] = Unit {0}
 Each P (x ∷ xs) = P x × Each P xs
+
+-- What is presumed of a step only if it is not denied.
+abbrev pub IfTaken : Result Tally Faulted → Type 0 → Type 0
+IfTaken (Ok cost) A = A
+IfTaken (Err why) A = Unit {0}
 
 -- A step that is not denied begins with its sixteen mapped pages in the set.
 abbrev pub StepWithin : {S : Type 0} → (ℕ → Bool) → Stepped S → Type 0

@@ -12,9 +12,9 @@ pub mod Control
 pub mod Instruction
 pub mod Interrupt
 pub mod Step
-pub mod Seclusion
 pub mod Run
 pub mod Log
 pub mod Isolation
+pub mod Seclusion
 pub mod Example
 pub mod Denials

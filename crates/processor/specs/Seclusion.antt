@@ -1,16 +1,9 @@
 -- A step depends on no page that the window does not open on, and changes none. Assumes nothing.
-use Rattle.std.specs.Prelude.{◌≡◌, ℕ, Bool, Ok, Err, Result}
-use Rattle.memory.specs.Memory.{Agree}
+use Rattle.std.specs.Prelude.{◌≡◌, ℕ, Bool}
 use Rattle.panel.specs.Panel.{Make}
 use Rattle.cycles.specs.Footprint.{Few, Kept, OpensWithin, on_pages}
-use Rattle.cycles.specs.Play.{Tally}
-use Rattle.processor.specs.Step.{Faulted, Model, Turn, step}
-
--- Two cards differ at most in the memory outside a set of pages.
-pub record Alike {S : Type 0} (pages : ℕ → Bool) (c d : Model S) : Type 0 where
-  pub processor : c.processor ≡ d.processor
-  pub panel : c.panel ≡ d.panel
-  pub memory : Agree (on_pages pages) c.mem d.mem
+use Rattle.processor.specs.Isolation.{Alike, IfTaken}
+use Rattle.processor.specs.Step.{Model, Turn, step}
 
 -- Both cards have taken a step: they answer the same and are alike again, and neither has a byte changed outside the pages.
 pub record Both {S : Type 0} (pages : ℕ → Bool) (c d : Model S) (one other : Turn S) : Type 0 where
@@ -18,11 +11,6 @@ pub record Both {S : Type 0} (pages : ℕ → Bool) (c d : Model S) (one other :
   pub alike : Alike pages one.card other.card
   pub first : Kept (on_pages pages) c.mem one.card.mem
   pub second : Kept (on_pages pages) d.mem other.card.mem
-
--- What is presumed of a step only if it is not denied.
-abbrev pub IfTaken : Result Tally Faulted → Type 0 → Type 0
-IfTaken (Ok cost) A = A
-IfTaken (Err why) A = Unit {0}
 
 -- Of every make of panel, every set of pages, and every two cards:
 pub record StepLaws {S : Type 0} (make : Make S) : Type 0 where
