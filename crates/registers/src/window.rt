@@ -66,13 +66,25 @@ impl Window {
         }
     }
 
+    // The base of the area of a logical page, for every access. As `self.base(self.area(page))`, tried, a run takes a sixth longer.
+    fn base_under(self, page: u8) -> u8
+        ensures { result ≡ base_of self (area_of self page) }
+    {
+        if self.cbar / 16 <= page {
+            self.cbr
+        } else if self.cbar % 16 <= page {
+            self.bbr
+        } else {
+            0
+        }
+    }
+
     // The physical page that a logical page shows.
     pub fn shown_page(self, page: u8) -> u8
         ensures value { result ≡ shown_page self page }
         ensures bound { result < 128 }
     {
-        let base = self.base(self.area(page));
-        ((u16::from(page) + u16::from(base)) % 128) as u8
+        ((u16::from(page) + u16::from(self.base_under(page))) % 128) as u8
     }
 
     // The physical address of a logical one.
@@ -81,8 +93,9 @@ impl Window {
         ensures bound { result < 524288 }
         ensures opened { OpensOn self (page_of result) }
     {
-        let page = self.shown_page((at / 4096) as u8);
-        u32::from(page) * 4096 + u32::from(at % 4096)
+        // one sum, since the low twelve bits carry nothing into the page
+        let base = self.base_under((at / 4096) as u8);
+        (u32::from(at) + u32::from(base) * 4096) % 524_288
     }
 
     // Whether some logical page shows a physical page.
