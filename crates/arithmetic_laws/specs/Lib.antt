@@ -6,4 +6,3 @@ pub mod Rotate
 pub mod Shown
 pub mod Sums
 pub mod Wide
-pub mod Worked

@@ -8,7 +8,6 @@ ghost use Rattle.arithmetic_laws.specs.Rotate as rotate;
 ghost use Rattle.arithmetic_laws.specs.Shown as shown;
 ghost use Rattle.arithmetic_laws.specs.Sums as sums;
 ghost use Rattle.arithmetic_laws.specs.Wide as wide;
-ghost use Rattle.arithmetic_laws.specs.Worked.{Worked};
 
 pub fn sum_laws()
     ensures undone { sums.Undone }
@@ -52,8 +51,4 @@ pub fn rotate_laws()
 
 pub fn bit_laws()
     ensures { bits.Changed }
-{}
-
-pub fn worked_numbers()
-    ensures { Worked }
 {}

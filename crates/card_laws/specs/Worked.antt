@@ -1,6 +1,11 @@
 -- Worked numbers, one statement over all of them. Assumes nothing.
-use Rattle.std.specs.Prelude.{◌≡◌, ℕ, List, [], ◌∷◌, Ok}
-use Rattle.arithmetic.specs.Flags.{byte}
+use Rattle.std.specs.Prelude.{◌≡◌, ℕ, List, [], ◌∷◌, Some, Ok}
+use Rattle.arithmetic.specs.Block.{port_zero}
+use Rattle.arithmetic.specs.Decimal.{adjust}
+use Rattle.arithmetic.specs.Flags.{byte, from}
+use Rattle.arithmetic.specs.Operation.{apply}
+use Rattle.arithmetic.specs.declared.flags.Flags.{Flags}
+use Rattle.arithmetic.specs.declared.operation.Operation.TheVariants.{Add}
 use Rattle.panel.specs.Panel.{Make}
 use Rattle.panel.specs.Script.{script_make}
 use Rattle.registers.specs.declared.registers.Registers.{Registers}
@@ -9,9 +14,12 @@ use Rattle.registers.specs.Operands.{af, hl, with_af, with_bc, with_hl}
 use Rattle.registers.specs.Registers.{fresh_window}
 use Rattle.registers.specs.Window.{area_of, physical_of, window_48, window_84}
 use Rattle.processor.specs.Step.{Turn, step}
-use Rattle.processor_laws.specs.Bench.{at_start, card, memory_with, quiet}
-use Rattle.processor_laws.specs.Worked.{stacked}
+use Rattle.processor_laws.specs.Bench.{at_start, card, memory_with, quiet, stacked}
 use Rattle.card_laws.specs.Executes.{Quiet}
+
+-- The value and F that an operation gives, as bytes.
+abbrev pub bytes : ℕ × Flags → ℕ × ℕ
+bytes r = (r.0, byte r.1)
 
 -- One step with any panel.
 abbrev pub stepped_with : {S : Type 0} → Make S → S → Registers → List ℕ → Turn S
@@ -57,10 +65,16 @@ pub record WorkedWindows : Type 0 where
   pub above_ca : area_of window_48 5 ≡ Common1
   pub below_ca : area_of window_48 2 ≡ Common0
 
+-- Each operation from F = 00H: 7FH + 01H, DAA of 9AH, and OTIM's lowering of B = 01H with the byte 80H.
+pub record WorkedOperations : Type 0 where
+  pub add : bytes (apply Add 0x7F 0x01 (from 0x00)) ≡ (0x80, 0x94)
+  pub daa : bytes (adjust 0x9A (from 0x00)) ≡ (0x00, 0x55)
+  pub otim : bytes (port_zero 0x01 0x80 (from 0x00)) ≡ (0x00, 0x46)
+
 pub record WorkedSteps {S : Type 0} (make : Make S) (s : S) : Type 0 where
   -- a word from two areas
   pub two_areas : hl (across_areas make s).card.processor.cpu ≡ 0x1234
-  -- A and F, and B and F
+  -- the same operations as instructions: A and F, and B and F
   pub added : af (sum make s).card.processor.cpu ≡ 0x8094
   pub adjusted : af (adjustment make s).card.processor.cpu ≡ 0x0055
   pub counted : (output_block make s).card.processor.cpu.main.b ≡ 0x00
@@ -79,6 +93,8 @@ pub record WorkedSteps {S : Type 0} (make : Make S) (s : S) : Type 0 where
 -- The steps come out so with every make of panel, in every state of it that is not full and asks for no line.
 pub record WorkedNumbers {S : Type 0} (make : Make S) : Type 0 where
   pub windows : WorkedWindows
+  pub operations : WorkedOperations
   pub steps : (s : S) → Quiet make s → WorkedSteps make s
-  -- a new script is in such a state
+  -- a new script is in such a state, and keeps what OUT (38H),A writes
   pub quiet_script : Quiet script_make quiet
+  pub kept_by_script : (output_a script_make quiet).card.panel.last_write ≡ Some (record { port = 0x0138; byte = 0x01 })

@@ -4,7 +4,7 @@ use Rattle.arithmetic.specs.Flags.{alike, from, odd}
 use Rattle.memory.specs.Memory.{Mem}
 use Rattle.panel.specs.Script.{State, new_script, script_make}
 use Rattle.registers.specs.declared.registers.Registers.{Registers}
-use Rattle.registers.specs.Registers.{fresh_registers, fresh_window, with_f, with_pc, with_sp}
+use Rattle.registers.specs.Registers.{fresh_registers, fresh_window, with_f, with_pc, with_sp, word}
 use Rattle.processor.specs.Step.{Model, Turn, step}
 
 abbrev pub start : ℕ
@@ -32,6 +32,10 @@ card s m panel = record { processor = record { cpu = s; window = fresh_window };
 
 abbrev pub stepped : Registers → List ℕ → Turn State
 stepped s bytes = step script_make (card s (memory_with bytes []) quiet)
+
+-- The word that the stack pointer stands at.
+abbrev pub stacked : {S : Type 0} → Turn S → ℕ
+stacked t = word (t.card.mem.byte (t.card.processor.cpu.sp + 1)) (t.card.mem.byte t.card.processor.cpu.sp)
 
 -- F by which the condition in bits 5 to 3 of a byte holds, or does not: the even ones ask for a 0, the odd ones for a 1.
 abbrev pub condition_flags : Bool → ℕ → Registers → Registers

@@ -10,8 +10,7 @@ use Rattle.registers.specs.declared.registers.Mode.TheVariants.{Asleep, Halted, 
 use Rattle.registers.specs.declared.registers.Registers.{Registers}
 use Rattle.registers.specs.Registers.{with_ei, with_i, with_ief1, with_ief2, with_il, with_im, with_itc, with_mode, with_r}
 use Rattle.processor.specs.Step.{Turn, step}
-use Rattle.processor_laws.specs.Bench.{at_start, card, memory_with}
-use Rattle.processor_laws.specs.Worked.{stacked}
+use Rattle.processor_laws.specs.Bench.{at_start, card, memory_with, stacked}
 
 -- A panel that asks for the lines whose flags are up, whatever is acknowledged, and keeps the last acknowledgement and the
 -- states it was told.

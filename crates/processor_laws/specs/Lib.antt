@@ -7,6 +7,5 @@ pub mod IndexedCbPage
 pub mod Bench
 pub mod Totals
 pub mod Traps
-pub mod Worked
 pub mod Interrupts
 pub mod Examples

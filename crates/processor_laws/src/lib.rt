@@ -6,7 +6,6 @@ ghost use Rattle.processor_laws.specs.Examples.{Examples};
 ghost use Rattle.processor_laws.specs.Interrupts.{Entries, Instead};
 ghost use Rattle.processor_laws.specs.Totals.{EdTotals, MainTotals, Pages, Totals};
 ghost use Rattle.processor_laws.specs.Traps.{Traps};
-ghost use Rattle.processor_laws.specs.Worked.{WorkedNumbers};
 
 pub fn totals()
     ensures main_page { MainTotals }
@@ -17,10 +16,6 @@ pub fn totals()
 
 pub fn traps()
     ensures { Traps }
-{}
-
-pub fn worked_numbers()
-    ensures { WorkedNumbers }
 {}
 
 pub fn interrupts()

@@ -62,17 +62,9 @@ pub record WindowLaws : Type 0 where
   pub translated : (w : Window) (a : ℕ) → OpensOn w (page_of (physical_of w a))
   pub within : (w : Window) (a : ℕ) → physical_of w a < 524288
 
--- Worked numbers, with CBAR 84H, CBR 7CH and BBR 20H, and with CBAR 48H.
+-- The two windows of the worked numbers: CBAR 84H, CBR 7CH and BBR 20H; CBAR 48H.
 abbrev pub window_84 : Window
 window_84 = record { cbar = 0x84; cbr = 0x7C; bbr = 0x20 }
 
 abbrev pub window_48 : Window
 window_48 = record { cbar = 0x48; cbr = 0; bbr = 0 }
-
-pub record WorkedNumbers : Type 0 where
-  pub common_0 : physical_of window_84 0x3FFF ≡ 0x03FFF
-  pub bank : physical_of window_84 0x4000 ≡ 0x24000
-  pub common_1 : physical_of window_84 0x8000 ≡ 0x04000
-  -- where BA lies above CA, common area 1 still has the first claim
-  pub above_ca : area_of window_48 5 ≡ Common1
-  pub below_ca : area_of window_48 2 ≡ Common0

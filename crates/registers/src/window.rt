@@ -1,7 +1,7 @@
 // The window: the three bytes that say which sixteen physical pages the 64 KiB logical space shows.
 ghost use Rattle.std.specs.Fmt.{padded};
 ghost use Rattle.std.specs.Prelude.{◌≡◌, ◌<◌, Some};
-ghost use Rattle.registers.specs.Window.{OpensOn, WindowLaws, WorkedNumbers, area_name, area_of, base_of, opens_on, page_of, physical_of, shown_page};
+ghost use Rattle.registers.specs.Window.{OpensOn, WindowLaws, area_name, area_of, base_of, opens_on, page_of, physical_of, shown_page};
 
 use std::fmt;
 
@@ -110,9 +110,4 @@ impl Window {
 #[tactic(auto, using(crate::proofs::Opened::laws))]
 pub fn window_laws()
     ensures { WindowLaws }
-{}
-
-// Names the worked numbers, likewise.
-pub fn worked_numbers()
-    ensures { WorkedNumbers }
 {}

@@ -5,9 +5,8 @@ use Rattle.panel.specs.declared.line.Line.TheVariants.{Int0, Int1, Int2, Nmi}
 use Rattle.panel.specs.Panel.{Make}
 use Rattle.panel.specs.Script.{script_make}
 use Rattle.registers.specs.Operands.{af, hl}
-use Rattle.processor_laws.specs.Bench.{quiet}
+use Rattle.processor_laws.specs.Bench.{quiet, stacked}
 use Rattle.card_laws.specs.Executes.{Quiet}
-use Rattle.processor_laws.specs.Worked.{stacked}
 use Rattle.card_laws.specs.Worked.{WorkedSteps}
 use Rattle.card_laws.proofs.Executing.{executing, runs}
 use Rattle.card_laws.proofs.worked_numbers.Goals as goal
@@ -38,6 +37,8 @@ silent Int2 = refl
 pub returns : goal.returns
 returns g c = record {
   windows = record { common_0 = refl; bank = refl; common_1 = refl; above_ca = refl; below_ca = refl };
+  operations = record { add = refl; daa = refl; otim = refl };
   steps = steps g.P.Panel.make;
   quiet_script = record { room = refl; silent = silent };
+  kept_by_script = refl;
 }
