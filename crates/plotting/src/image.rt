@@ -35,9 +35,9 @@ fn run_listing<M: Memory + Drop>(
     if !replayed.complete {
         return Err(Unplotted::NoMemory);
     }
-    // that there is a run follows from the log; the contract here holds without it
+    // the log is one run, and its budget is accepted
     let Some(ran) = run_answer(replayed.answers.as_slice()) else {
-        return Err(Unplotted::NoMemory);
+        unreachable!()
     };
     let (cpu, window) = replayed.card.registers();
     listing(heap, ran, cpu, window, replayed.card.panel())
@@ -49,10 +49,8 @@ fn image_listing(heap: Global, image: &[u8]) -> Result<String, Unplotted>
     ensures { Lists result (image_text image.now) }
 {
     let mut bytes = bank_bytes(heap, image)?;
-    let Ok(size) = BoardLength::of_bank(bytes.as_slice()) else {
-        // 65,536 bytes are a bank
-        unreachable!()
-    };
+    // 65,536 bytes are a bank
+    let size = BoardLength::of_bank(bytes.as_slice()).unwrap();
     let panel = new_panel(heap)?;
     let bank = Bank::new(bytes.as_mut_slice(), size);
     run_listing(heap, bank, panel, STATES)
