@@ -36,9 +36,7 @@ fn run_listing<M: Memory + Drop>(
         return Err(Unplotted::NoMemory);
     }
     // the log is one run, and its budget is accepted
-    let Some(ran) = run_answer(replayed.answers.as_slice()) else {
-        unreachable!()
-    };
+    let ran = run_answer(replayed.answers.as_slice()).unwrap();
     let (cpu, window) = replayed.card.registers();
     listing(heap, ran, cpu, window, replayed.card.panel())
 }
