@@ -51,6 +51,7 @@ impl<M: Memory, P: Panel> Card<M, P> {
 
     // Steps until one is denied, or leaves the card halted or asleep, or the budget of states is spent; 6 for a budget outside
     // 1 to 1,000,000.
+    #[tactic(auto, using(processor::proofs::Logs::run_few))]
     pub fn run(&mut self, budget: u32) -> Result<Ran, Denial>
         ensures run { ran M.memory P.state result self.new ≡ run_called P.make budget (model M.memory P.state self.old) }
         ensures few { Each ChangesFew (running.run P.make budget (model M.memory P.state self.old)).steps }
@@ -110,8 +111,5 @@ impl<M: Memory, P: Panel> Card<M, P> {
 fn rests(mode: Mode) -> bool
     ensures { result ≡ running.rests mode }
 {
-    match mode {
-        Mode::Running => false,
-        Mode::Halted | Mode::Asleep => true,
-    }
+    mode != Mode::Running
 }

@@ -1,8 +1,7 @@
 // A look that stands: the card's window is set aside, and put back on every way out.
-ghost use Rattle.card.specs.Looks.{is_length};
-ghost use Rattle.denial.specs.Denials.{answered, numbered};
-ghost use Rattle.processor.specs.Run.{looked};
-ghost use Rattle.std.specs.Prelude.{◌≡◌, length, if◌then◌else◌, Ok, Err};
+ghost use Rattle.card.specs.Looks.{filled, filling};
+ghost use Rattle.denial.specs.Denials.{answered};
+ghost use Rattle.std.specs.Prelude.{◌≡◌, length};
 
 use denial::Denial;
 use memory::Memory;
@@ -23,12 +22,13 @@ impl<M> Drop for Look<'_, M> {
     fn drop(self)
         ensures { self.exit.0.now ≡ self.entry.saved }
     {
-        *self.window = self.saved;
+        // taken apart, since letting it go whole would call `drop` again
         let Look {
-            window: _,
-            saved: _,
+            window,
+            saved,
             memory: _,
         } = self;
+        *window = saved;
     }
 }
 
@@ -36,8 +36,8 @@ impl<'a, M: Memory> Look<'a, M> {
     // Fills a buffer from a logical address on, through the look's window; or 7, and the buffer is as it was.
     #[tactic(auto, unfolding(processor::specs::Run::looked, view::specs::Views::shown))]
     pub fn fill(&self, at: u16, buffer: &mut [u8]) -> Result<(), Denial>
-        ensures answer { answered result ≡ (if is_length (length buffer.old) then Ok tt else Err (numbered 7)) }
-        ensures buffer { buffer.new ≡ (if is_length (length buffer.old) then looked (M.memory self.now.memory.now).byte self.now.window.now at (length buffer.old) else buffer.old) }
+        ensures answer { answered result ≡ filling (length buffer.old) }
+        ensures buffer { buffer.new ≡ filled (M.memory self.now.memory.now).byte self.now.window.now at buffer.old }
     {
         if buffer.len() > LONGEST {
             return Err(Denial::LookOutOfRange);
@@ -46,15 +46,8 @@ impl<'a, M: Memory> Look<'a, M> {
         Ok(())
     }
 
-    // Puts the card's own window back. A look that is let go does the same.
+    // Ends the look: it is let go here, and `drop` puts the card's own window back.
     pub fn end(self)
         ensures { self.exit.0.now ≡ self.entry.saved }
-    {
-        let Look {
-            window,
-            saved,
-            memory: _,
-        } = self;
-        *window = saved;
-    }
+    {}
 }

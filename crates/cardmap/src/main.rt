@@ -13,10 +13,7 @@ const MOST: u64 = 524_289;
 fn main(rt: HostRuntime) -> anyhow::Result<()> {
     let mut image = Vec::new(rt.alloc());
     rt.stdin().take(MOST).read_to_end(&mut image)?;
-    let mut arguments = Vec::new(rt.alloc());
-    for argument in env::args(&rt)?.skip(1) {
-        arguments.push(argument)?;
-    }
+    let arguments: Vec<String> = env::args(&rt)?.skip(1).collect(rt.alloc())?;
     match listing(rt.alloc(), &mut image, &arguments) {
         Ok(text) => rt.print(text)?,
         Err(reason) => {

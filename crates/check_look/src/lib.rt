@@ -1,13 +1,11 @@
 // How a host looks through another window, and that the card is as it was once the look has ended.
-// Each function is a caller of a look by itself, and its contract says the whole of what a caller gets.
 #![tactic(auto)]
 
 ghost use Rattle.card.specs.Cards.{model, seen};
-ghost use Rattle.card.specs.Looks.{is_length};
-ghost use Rattle.check_look.specs.Filled.{filled};
-ghost use Rattle.denial.specs.Denials.{answered, numbered};
+ghost use Rattle.card.specs.Looks.{filled, filling};
+ghost use Rattle.denial.specs.Denials.{answered};
 ghost use Rattle.processor.specs.Step as stepping;
-ghost use Rattle.std.specs.Prelude.{◌≡◌, length, if◌then◌else◌, Ok, Err};
+ghost use Rattle.std.specs.Prelude.{◌≡◌, length};
 
 use card::card::Card;
 use card::look_window::LookWindow;
@@ -23,7 +21,7 @@ pub fn ended<M: Memory, P>(
     at: u16,
     buffer: &mut [u8],
 ) -> Result<(), Denial>
-    ensures answer { answered result ≡ (if is_length (length buffer.old) then Ok tt else Err (numbered 7)) }
+    ensures answer { answered result ≡ filling (length buffer.old) }
     ensures buffer { buffer.new ≡ filled (M.memory card.old.machine.memory).byte window.window at buffer.old }
     ensures card { card.new ≡ card.old }
 {
@@ -40,7 +38,7 @@ pub fn let_go<M: Memory, P>(
     at: u16,
     buffer: &mut [u8],
 ) -> Result<(), Denial>
-    ensures answer { answered result ≡ (if is_length (length buffer.old) then Ok tt else Err (numbered 7)) }
+    ensures answer { answered result ≡ filling (length buffer.old) }
     ensures buffer { buffer.new ≡ filled (M.memory card.old.machine.memory).byte window.window at buffer.old }
     ensures card { card.new ≡ card.old }
 {
@@ -55,7 +53,7 @@ pub fn ended_then_stepped<M: Memory, P: Panel>(
     at: u16,
     buffer: &mut [u8],
 ) -> (Result<(), Denial>, Result<Cost, Fault>)
-    ensures answer { answered result.0 ≡ (if is_length (length buffer.old) then Ok tt else Err (numbered 7)) }
+    ensures answer { answered result.0 ≡ filling (length buffer.old) }
     ensures buffer { buffer.new ≡ filled (M.memory card.old.machine.memory).byte window.window at buffer.old }
     ensures turn { seen M.memory P.state result.1 card.new ≡ stepping.step P.make (model M.memory P.state card.old) }
 {
@@ -74,7 +72,7 @@ pub fn ended_then_opened<M: Memory, P>(
     first: &mut [u8],
     second: &mut [u8],
 ) -> (Result<(), Denial>, Result<(), Denial>)
-    ensures answers { (answered result.0 ≡ (if is_length (length first.old) then Ok tt else Err (numbered 7))) × (answered result.1 ≡ (if is_length (length second.old) then Ok tt else Err (numbered 7))) }
+    ensures answers { (answered result.0 ≡ filling (length first.old)) × (answered result.1 ≡ filling (length second.old)) }
     ensures first { first.new ≡ filled (M.memory card.old.machine.memory).byte windows.0.window at first.old }
     ensures second { second.new ≡ filled (M.memory card.old.machine.memory).byte windows.1.window at second.old }
     ensures card { card.new ≡ card.old }

@@ -61,10 +61,11 @@ fn byte(place: Place, text: &str) -> Result<u8, BadArgument>
 fn base(place: Place, text: &str) -> Result<u8, BadArgument>
     ensures { result ≡ base_for place text.now }
 {
-    match byte(place, text) {
-        Ok(base) if base > 0x7F => Err(BadArgument::AboveBase(place)),
-        answer => answer,
+    let base = byte(place, text)?;
+    if base > 0x7F {
+        return Err(BadArgument::AboveBase(place));
     }
+    Ok(base)
 }
 
 // The window of three bytes; the first that is wrong is named.

@@ -14,7 +14,6 @@ pub struct Head {
 impl fmt::Display for Head {
     ghost output = { λ h. Some (head_text h.bytes h.window) };
 
-    #[tactic(auto, using(text::proofs::Written::byte_written), unfolding(crate::specs::Lines::head_text))]
     fn fmt<W: fmt::Write>(&self, f: &mut fmt::Formatter<W>) -> fmt::Result {
         let bytes = self.bytes;
         let cbar = self.window.cbar;

@@ -68,9 +68,7 @@ pub fn listing(heap: Global, image: &mut [u8], arguments: &[String]) -> Result<S
     ensures answer { Answers result (asked (map string_bytes arguments.now) image.old) }
     ensures same { image.new ≡ image.old }
 {
-    let Ok(size) = BoardLength::of_bank(image) else {
-        return Err(Unlisted::TooLong);
-    };
+    let size = BoardLength::of_bank(image).map_err(|_| Unlisted::TooLong)?;
     let window = window(arguments)?;
     let bytes = image.len();
     let bank = Bank::new(image, size);

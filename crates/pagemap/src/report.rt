@@ -47,7 +47,6 @@ impl PageReport {
 impl fmt::Display for PageReport {
     ghost output = { λ r. Some (page_line r) };
 
-    #[tactic(auto, using(text::proofs::Written::printed), unfolding(crate::specs::Lines::page_line))]
     fn fmt<W: fmt::Write>(&self, f: &mut fmt::Formatter<W>) -> fmt::Result {
         // in one digit
         let page = self.page % 16;

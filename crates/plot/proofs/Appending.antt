@@ -1,9 +1,11 @@
 -- A text that grows line by line along a walk. Assumes nothing.
-use Rattle.std.proofs.Common.{◌≡◌, ℕ, List, [], ◌∷◌, ◌++◌, length, sym, ap, ◌∙◌, append_assoc, append-nil, arith}
+use Rattle.std.proofs.Common.{◌≡◌, ℕ, zero, suc, ◌+◌, ◌<◌, List, [], ◌∷◌, ◌++◌, length, slice_index_or, sym, ap, ◌∙◌, append_assoc, append-nil, arith}
 use Rattle.panel.specs.declared.record.Record.{Record}
 use Rattle.panel.specs.declared.track.Track.{Track}
 use Rattle.plot.specs.Lines.{line, record_line}
-use Rattle.plot.specs.Listing.{lines_of}
+use Rattle.panel.specs.declared.track.Track.TheVariants.{Pen, X, Y}
+use Rattle.panel.specs.Chains.{State}
+use Rattle.plot.specs.Listing.{lines_of, track_text}
 
 -- the line of one more record
 pub record_more : (track : Track) (text longer want : List ℕ) (x : ℕ × Record) (ahead behind : List (ℕ × Record)) → text ++ lines_of track ahead ≡ want → ahead ≡ x ∷ behind → longer ≡ text ++ line (record_line track x.0 x.1) → longer ++ lines_of track behind ≡ want
@@ -18,7 +20,31 @@ pub records_done : (track : Track) (text want : List ℕ) (ahead : List (ℕ × 
 records_done track text want [] before none = sym (append-nil text) ∙ before
 records_done track text want (x ∷ xs) before none = absurd (omega arith)
 
--- two lines, then three pieces, from nothing
-pub two_and_three : (a b c d e t₀ t₁ t₂ t₃ t₄ : List ℕ) → t₀ ≡ [] → t₁ ≡ t₀ ++ (a ++ ((10 ∷ []) ++ (b ++ (10 ∷ [])))) → t₂ ≡ t₁ ++ c → t₃ ≡ t₂ ++ d → t₄ ≡ t₃ ++ e → t₄ ≡ line a ++ (line b ++ (c ++ (d ++ e)))
-two_and_three a b c d e t₀ t₁ t₂ t₃ t₄ h₀ h₁ h₂ h₃ h₄ =
-    h₄ ∙ ap (λ l. l ++ e) (h₃ ∙ ap (λ l. l ++ d) (h₂ ∙ ap (λ l. l ++ c) (h₁ ∙ ap (λ l. l ++ (a ++ ((10 ∷ []) ++ (b ++ (10 ∷ []))))) h₀))) ∙ simp append_assoc
+-- the chains of the first n tracks
+abbrev pub first_tracks : State → ℕ → List ℕ
+first_tracks s zero = []
+first_tracks s (suc zero) = track_text s Pen
+first_tracks s (suc (suc zero)) = track_text s Pen ++ track_text s X
+first_tracks s (suc (suc (suc n))) = track_text s Pen ++ (track_text s X ++ track_text s Y)
+
+pub no_track : (s : State) (text : List ℕ) → text ≡ text ++ first_tracks s 0
+no_track s text = sym (append-nil text)
+
+-- the chain of one more track
+pub track_more : (s : State) (n : ℕ) (start text longer : List ℕ) (d : Track) → n < 3 → text ≡ start ++ first_tracks s n → longer ≡ text ++ track_text s (slice_index_or (Pen ∷ X ∷ Y ∷ []) n d) → longer ≡ start ++ first_tracks s (n + 1)
+track_more s zero start text longer d some before now =
+    now ∙ ap (λ l. l ++ track_text s Pen) (before ∙ append-nil start)
+track_more s (suc zero) start text longer d some before now =
+    now ∙ ap (λ l. l ++ track_text s X) before ∙ append_assoc start (track_text s Pen) (track_text s X)
+track_more s (suc (suc zero)) start text longer d some before now =
+    now ∙ ap (λ l. l ++ track_text s Y) before ∙ append_assoc start (track_text s Pen ++ track_text s X) (track_text s Y)
+    ∙ ap (λ l. start ++ l) (append_assoc (track_text s Pen) (track_text s X) (track_text s Y))
+track_more s (suc (suc (suc n))) start text longer d some before now = absurd (omega arith)
+
+-- two lines, then the chains of all three, from nothing
+pub tracks_done : (s : State) (n : ℕ) (a b empty start text : List ℕ) → n ≡ 3 → empty ≡ [] → start ≡ empty ++ (a ++ ((10 ∷ []) ++ (b ++ (10 ∷ [])))) → text ≡ start ++ first_tracks s n → text ≡ line a ++ (line b ++ first_tracks s 3)
+tracks_done s n a b empty start text all nothing lines made =
+    made
+    ∙ ap (λ k. start ++ first_tracks s k) all
+    ∙ ap (λ l. l ++ first_tracks s 3) (lines ∙ ap (λ l. l ++ (a ++ ((10 ∷ []) ++ (b ++ (10 ∷ []))))) nothing)
+    ∙ simp append_assoc

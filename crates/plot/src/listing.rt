@@ -2,7 +2,7 @@
 ghost use Rattle.card.specs.Cards.{ran_of};
 ghost use Rattle.panel.specs.Shown.{chain_state};
 ghost use Rattle.plot.specs.Listing.{Lists, text_of_plot, track_text};
-ghost use Rattle.std.specs.Prelude.{◌≡◌, ◌++◌, IfOk, string_bytes, OnOk};
+ghost use Rattle.std.specs.Prelude.{◌≡◌, ◌++◌, string_bytes, OnOk};
 
 use crate::record_line::RecordLine;
 use crate::register_line::RegisterLine;
@@ -30,27 +30,8 @@ fn records(text: &mut String, panel: &Chain, track: Track) -> Result<(), AllocEr
     Ok(())
 }
 
-fn plot_text(
-    heap: Global,
-    ran: Ran,
-    cpu: Registers,
-    window: Window,
-    panel: &Chain,
-) -> Result<String, AllocError>
-    ensures { IfOk result (λ text. string_bytes text ≡ text_of_plot (ran_of ran) cpu window (chain_state panel.now)) }
-{
-    let run = RunLine(ran);
-    let registers = RegisterLine { cpu, window };
-    let mut text = String::new(heap);
-    writeln!(text, "{run}\n{registers}")?;
-    records(&mut text, panel, Track::Pen)?;
-    records(&mut text, panel, Track::X)?;
-    records(&mut text, panel, Track::Y)?;
-    Ok(text)
-}
-
-// The listing of a run, of the registers and the window that it left, and of the panel. The four are parameters and no struct,
-// since they meet only here.
+// The listing of a run, of the registers and the window that it left, and of the panel. The four are parameters: a struct of them
+// would be made at each call and taken apart here.
 pub fn listing(
     heap: Global,
     ran: Ran,
@@ -60,5 +41,12 @@ pub fn listing(
 ) -> Result<String, Unplotted>
     ensures { Lists result (text_of_plot (ran_of ran) cpu window (chain_state panel.now)) }
 {
-    Ok(plot_text(heap, ran, cpu, window, panel)?)
+    let run = RunLine(ran);
+    let registers = RegisterLine { cpu, window };
+    let mut text = String::new(heap);
+    writeln!(text, "{run}\n{registers}")?;
+    for track in [Track::Pen, Track::X, Track::Y] {
+        records(&mut text, panel, track)?;
+    }
+    Ok(text)
 }

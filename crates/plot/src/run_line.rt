@@ -12,6 +12,7 @@ pub struct RunLine(pub Ran);
 impl fmt::Display for RunLine {
     ghost output = { λ l. Some (run_line (ran_of l.0)) };
 
+    #[tactic(auto, unfolding(crate::specs::Lines::run_line))]
     fn fmt<W: fmt::Write>(&self, f: &mut fmt::Formatter<W>) -> fmt::Result {
         let stop = self.0.stop;
         let steps = self.0.steps;

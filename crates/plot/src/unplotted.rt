@@ -18,10 +18,10 @@ impl fmt::Display for Unplotted {
     ghost output = { λ u. Some (unplotted_line u) };
 
     fn fmt<W: fmt::Write>(&self, f: &mut fmt::Formatter<W>) -> fmt::Result {
-        match self {
-            Unplotted::TooLong => f.write_str("too long"),
-            Unplotted::NoMemory => f.write_str("no memory for the listing"),
-        }
+        f.write_str(match self {
+            Unplotted::TooLong => "too long",
+            Unplotted::NoMemory => "no memory for the listing",
+        })
     }
 }
 

@@ -1,5 +1,5 @@
 -- A log of one run, and what it came to. Assumes nothing.
-use Rattle.std.proofs.Common.{◌≡◌, ℕ, ◌-◌, ◌≤◌, Bool, true, cond, List, [], ◌∷◌, ◌++◌, map, length, get_or, take, replicate, Ok, Err, sym, ap, ◌∙◌, ap₂, arith, take_all}
+use Rattle.std.proofs.Common.{◌≡◌, ℕ, ◌-◌, ◌≤◌, Bool, true, cond, List, [], ◌∷◌, ◌++◌, length, take, replicate, Ok, Err, sym, ap, ◌∙◌, ap₂, take_all}
 use Rattle.memory.specs.Memory.{Mem}
 use Rattle.panel.specs.Chains.{State, chain_make}
 use Rattle.processor.specs.Log as log
@@ -10,12 +10,6 @@ use Rattle.denial.specs.Denials.{numbered}
 use Rattle.plot.specs.Listing.{text_of_plot}
 use Rattle.card_log.specs.Replays.{SoFar, reached}
 use Rattle.plotting.specs.Plotting.{filled, run_for, run_text}
-
--- a list of one
-pub one_of : {A B : Type 0} (f : A → B) (xs : List A) (x : A) → length xs ≡ 1 → x ≡ get_or xs 0 x → f x ∷ [] ≡ map f xs
-one_of f [] x h e = absurd (omega (arith, h))
-one_of f (y ∷ []) x h e = ap (λ z. f z ∷ []) e
-one_of f (y ∷ z ∷ zs) x h e = absurd (omega (arith, h))
 
 -- the run's answer in an answer, or another
 in_answer : Ran → log.Answer → Ran
@@ -50,7 +44,6 @@ listed states m s answers c r calls budget one all alone =
     ap₂ text_of answer card
 
 -- an image, then zeros
-pub filling : (image none some all : List ℕ) (n : ℕ) → length image ≤ 65536 → n ≡ length image → none ≡ [] → some ≡ none ++ image → all ≡ take 65536 some ++ replicate (65536 - n) 0 → all ≡ filled image
-filling image none some all n short size a b c =
-    let e : some ≡ image = b ∙ ap (λ (xs : List ℕ). xs ++ image) a in
-    c ∙ ap₂ (λ (xs : List ℕ) (k : ℕ). xs ++ replicate (65536 - k) 0) (ap (λ (xs : List ℕ). take 65536 xs) e ∙ take_all 65536 image short) size
+pub filling : (image bytes all : List ℕ) (n : ℕ) → length image ≤ 65536 → bytes ≡ image → n ≡ length image → all ≡ take 65536 bytes ++ replicate (65536 - n) 0 → all ≡ filled image
+filling image bytes all n short same size made =
+    made ∙ ap₂ (λ (xs : List ℕ) (k : ℕ). xs ++ replicate (65536 - k) 0) (ap (λ (xs : List ℕ). take 65536 xs) same ∙ take_all 65536 image short) size

@@ -1,10 +1,10 @@
 -- What the plot of an image is to say, as a function of the image alone. Assumes nothing.
-use Rattle.std.specs.Prelude.{◌≡◌, ℕ, ◌-◌, ◌<◌, ◌≤◌, List, [], ◌∷◌, ◌++◌, length, replicate, Some, None, Ok, Err, string_bytes, Option, Result, String}
+use Rattle.std.specs.Prelude.{◌≡◌, ◌≢◌, ℕ, ◌-◌, ◌<◌, ◌≤◌, List, [], ◌∷◌, ◌++◌, length, replicate, Some, None, Ok, Err, string_bytes, Option, Result, String}
 use Rattle.memory.specs.Boards.{bank}
 use Rattle.panel.specs.Chains.{State, chain_make, new_chain}
 use Rattle.processor.specs.Log as log
 use Rattle.processor.specs.Log.{made}
-use Rattle.processor.specs.Run.{Finished, run}
+use Rattle.processor.specs.Run.{Finished, Ran as Ended, run}
 use Rattle.processor.specs.Step.{Model}
 use Rattle.card.specs.declared.ran.Ran.{Ran}
 use Rattle.card.specs.Cards.{ran_of}
@@ -38,10 +38,10 @@ Plots (Ok text) image = (length image ≤ 65536) × (string_bytes text ≡ image
 Plots (Err TooLong) image = 65536 < length image
 Plots (Err NoMemory) image = length image ≤ 65536
 
--- The answer to a run, where it is the only answer.
+-- The answer to a run, where it is the only answer; none, where no run was answered alone.
 abbrev pub RanAlone : Option Ran → List log.Answer → Type 0
 RanAlone (Some r) answers = answers ≡ log.ran (Ok (ran_of r)) ∷ []
-RanAlone None answers = Unit {0}
+RanAlone None answers = (r : Ended) → answers ≢ log.ran (Ok r) ∷ []
 
 -- The run is the one line of a log.
 abbrev pub OfTheLog : Type 0

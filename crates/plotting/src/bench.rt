@@ -19,8 +19,7 @@ pub(crate) fn bank_bytes(heap: Global, image: &[u8]) -> Result<Vec<u8>, AllocErr
     requires { length image.now ≤ 65536 }
     ensures { IfOk result (λ v. v.items ≡ filled image.now) }
 {
-    let mut bytes = Vec::new(heap);
-    bytes.extend_from_slice(image)?;
+    let mut bytes = Vec::from_slice(heap, image)?;
     bytes.resize(BYTES, 0)?;
     Ok(bytes)
 }
@@ -36,9 +35,6 @@ fn table(heap: Global) -> Result<Vec<Record>, AllocError>
 pub(crate) fn new_panel(heap: Global) -> Result<Chain, AllocError>
     ensures { IfOk result (λ p. chain_state p ≡ new_chain 63) }
 {
-    match Chain::new(table(heap)?) {
-        Ok(panel) => Ok(panel),
-        // 64 records are a table
-        Err(_) => unreachable!(),
-    }
+    // 64 records are a table
+    Ok(Chain::new(table(heap)?).unwrap())
 }

@@ -35,10 +35,8 @@ fn run_listing<M: Memory + Drop>(
     if !replayed.complete {
         return Err(Unplotted::NoMemory);
     }
-    // that there is a run follows from the log; the contract here holds without it
-    let Some(ran) = run_answer(replayed.answers.as_slice()) else {
-        return Err(Unplotted::NoMemory);
-    };
+    // the log is one run, and its budget is accepted
+    let ran = run_answer(replayed.answers.as_slice()).unwrap();
     let (cpu, window) = replayed.card.registers();
     listing(heap, ran, cpu, window, replayed.card.panel())
 }
@@ -49,10 +47,8 @@ fn image_listing(heap: Global, image: &[u8]) -> Result<String, Unplotted>
     ensures { Lists result (image_text image.now) }
 {
     let mut bytes = bank_bytes(heap, image)?;
-    let Ok(size) = BoardLength::of_bank(bytes.as_slice()) else {
-        // 65,536 bytes are a bank
-        unreachable!()
-    };
+    // 65,536 bytes are a bank
+    let size = BoardLength::of_bank(bytes.as_slice()).unwrap();
     let panel = new_panel(heap)?;
     let bank = Bank::new(bytes.as_mut_slice(), size);
     run_listing(heap, bank, panel, STATES)

@@ -1,4 +1,5 @@
-// Numbers as text: in hexadecimal, written and read, and in columns.
+// Numbers as text. The code reads them, in hexadecimal; how std prints them, in columns too, is defined in specs/ and proved in
+// proofs/.
 #![tactic(auto)]
 
 pub mod hex;

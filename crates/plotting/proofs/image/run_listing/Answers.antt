@@ -18,9 +18,10 @@ returns g c =
     let complete : c.replay-replayed.result.complete ≡ true = search rules in
     let calls : ℕ → List log.Call = λ k. map call_of (take k (call.Run c.args.states ∷ [])) in
     let one : calls served ≡ log.running c.args.states ∷ [] = ap calls (c.replay-replayed.ensures.whole complete) in
-    let alone : map answer_of answers ≡ log.ran (Ok (ran_of c.in-Some.ran)) ∷ [] =
-    ap (λ (xs : List Answer). map answer_of xs) (sym c.as_slice.ensures.value) ∙ c.in-Some.ensures in
+    let run_answer : map answer_of c.as_slice.result.now ≡ log.ran (Ok (ran_of c.unwrap-ran.result)) ∷ [] = search rules in
+    let alone : map answer_of answers ≡ log.ran (Ok (ran_of c.unwrap-ran.result)) ∷ [] =
+    ap (λ (xs : List Answer). map answer_of xs) (sym c.as_slice.ensures.value) ∙ run_answer in
     let text =
-    listed c.args.states (memory c.args.memory) (chain_state c.args.panel) (map answer_of answers) (model memory chain_state card) (ran_of c.in-Some.ran) (calls served) c.requires one c.replay-replayed.ensures.replayed alone in
+    listed c.args.states (memory c.args.memory) (chain_state c.args.panel) (map answer_of answers) (model memory chain_state card) (ran_of c.unwrap-ran.result) (calls served) c.requires one c.replay-replayed.ensures.replayed alone in
     let P : List ℕ → Type 0 = Lists c.listing.result in
-    subst P ((λ i. text_of_plot (ran_of c.in-Some.ran) (c.registers.ensures.cpu i) (c.registers.ensures.window i) (chain_state (c.panel.ensures i))) ∙ text) c.listing.ensures
+    subst P ((λ i. text_of_plot (ran_of c.unwrap-ran.result) (c.registers.ensures.cpu i) (c.registers.ensures.window i) (chain_state (c.panel.ensures i))) ∙ text) c.listing.ensures

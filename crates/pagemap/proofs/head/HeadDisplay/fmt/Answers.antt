@@ -3,6 +3,8 @@ use Rattle.text.proofs.Written.{byte_hole}
 use Rattle.pagemap.specs.Lines.{head_text}
 use Rattle.pagemap.proofs.head.HeadDisplay.fmt.Goals as goal
 
+-- Tried: no file, with `printed` and `head_text` named on the function, as the lines of a plot have it. It closes only where the
+-- decimal number is left out.
 pub returns-clause-writes : goal.returns-clause-writes
 unfolding head_text
 returns-clause-writes g c =

@@ -1,8 +1,0 @@
-use Rattle.std.proofs.Common.{sym, subst}
-use Rattle.std.specs.Fmt.{HasWritten}
-use Rattle.plot.specs.Listing.{unplotted_line}
-use Rattle.plot.proofs.unplotted.UnplottedDisplay.fmt.Goals as goal
-
-pub returns-in-NoMemory-clause-writes : goal.returns-in-NoMemory-clause-writes
-returns-in-NoMemory-clause-writes g c plain ok =
-    subst (λ u. HasWritten g.W.Write.write_str_gives c.args.f.now (unplotted_line u) c.write_str-in-NoMemory.new.self) (sym c.in-NoMemory.is) (c.write_str-in-NoMemory.ensures.writes plain ok)
