@@ -14,7 +14,7 @@ fn plus(a: u8, b: u8, carry: bool, flags: Flags) -> (u8, Flags)
     (value as u8, Flags { h, ..shown })
 }
 
-// a - b, and one less with a borrow. H is a borrow into the low digit.
+// a - b, and one less with a borrow. H is a borrow into the low digit; it stands apart from `plus` as the difference from the sum.
 fn minus(a: u8, b: u8, borrow: bool, flags: Flags) -> (u8, Flags)
     ensures { result ≡ of.minus a b borrow flags }
 {

@@ -27,7 +27,8 @@ pub(crate) fn sum<const M: u32>(a: u32, b: u32, carry: bool, flags: Flags) -> (u
     (value, flags)
 }
 
-// a - b, and one less with a borrow.
+// a - b, and one less with a borrow. Apart from the sum, since value, P/V, N and C each come about another way: one of both would ask
+// four times which it is.
 pub(crate) fn difference<const M: u32>(a: u32, b: u32, borrow: bool, flags: Flags) -> (u32, Flags)
     requires width { M ≤ 65536 }
     requires first { a < M }
