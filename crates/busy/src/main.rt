@@ -1,4 +1,4 @@
-// Runs the busy image for as many steps as standard input says, in decimal, and prints what bench/z80ex-run.c prints of
+// Runs a card over the busy image for as many steps as standard input says, in decimal, and prints what bench/z80ex-run.c prints of
 // the same steps, for comparing and for timing.
 #![tactic(auto)]
 
@@ -6,10 +6,9 @@ mod image;
 mod sum;
 
 use anyhow::anyhow;
-use execution::step::step;
+use card::card::Card;
+use denial::Denial;
 use image::IMAGE;
-use machine::cost::Cost;
-use machine::state::Machine;
 use memory::Memory;
 use memory::bank::Bank;
 use memory::length::BoardLength;
@@ -17,12 +16,14 @@ use panel::Panel;
 use panel::script::Script;
 use panel::sent::Sent;
 use registers::registers::Registers;
-use registers::window::Window;
 use std::alloc::{AllocError, Global};
 use std::io::Read;
 use sum::checksum;
 
 const BYTES: usize = 65_536;
+
+// No run has a budget above a million states.
+const MOST_STEPS: u64 = 333_333;
 
 // What a run comes to.
 #[derive(Clone, Copy)]
@@ -38,33 +39,33 @@ fn memory_with_image(heap: Global) -> Result<Vec<u8>, AllocError> {
     Ok(bytes)
 }
 
-// The loop that is timed. A denied step ends it; this panel denies none.
-fn steps<M: Memory, P: Panel>(card: &mut Machine<M, P>, count: u64) -> u64 {
+// Runs of a card until it has made so many steps; the states that they took. A step takes three states or more, so a run of three for
+// each step that is left makes at least one and no more than are left. This image never halts, and this panel denies no step.
+fn steps<M: Memory, P: Panel>(card: &mut Card<M, P>, count: u64) -> Result<u64, Denial> {
     let mut states = 0u64;
-    for _ in 0..count {
-        match step(card) {
-            Ok(cost) => states = states.wrapping_add(u64::from(cost.states)),
-            Err(_) => break,
+    let mut left = count;
+    for _run in 0..count {
+        if left == 0 {
+            break;
         }
+        let ran = card.run(left.min(MOST_STEPS) as u32 * 3)?;
+        states = states.wrapping_add(ran.states);
+        left = left.saturating_sub(u64::from(ran.steps));
     }
-    states
+    Ok(states)
 }
 
 // The panel's threshold stands where INT0 does not matter, since the image leaves IEF1 at 0.
-fn run(heap: Global, bytes: &mut [u8], size: BoardLength, count: u64) -> Ran {
-    let mut card = Machine {
-        cpu: Registers::new(),
-        window: Window::RESET,
-        memory: Bank::new(bytes, size),
-        panel: Script::new(Vec::new(heap), 0xFFFF_FFFF, 0xFF),
-        spent: Cost::default(),
-    };
-    let states = steps(&mut card, count);
-    Ran {
-        cpu: card.cpu,
+fn run(heap: Global, bytes: &mut [u8], size: BoardLength, count: u64) -> Result<Ran, Denial> {
+    let panel = Script::new(Vec::new(heap), 0xFFFF_FFFF, 0xFF);
+    let mut card = Card::new(Bank::new(bytes, size), panel);
+    let states = steps(&mut card, count)?;
+    let (cpu, _) = card.registers();
+    Ok(Ran {
+        cpu,
         states,
-        last: card.panel.last_write(),
-    }
+        last: card.panel().last_write(),
+    })
 }
 
 fn show(rt: &HostRuntime, count: u64, ran: Ran, bytes: &[u8]) -> anyhow::Result<()> {
@@ -84,6 +85,6 @@ fn main(rt: HostRuntime) -> anyhow::Result<()> {
     let count = text.as_str().trim().parse::<u64>()?;
     let mut bytes = memory_with_image(rt.alloc())?;
     let size = BoardLength::of_bank(&bytes).map_err(|_| anyhow!("the memory is too long"))?;
-    let ran = run(rt.alloc(), &mut bytes, size, count);
+    let ran = run(rt.alloc(), &mut bytes, size, count).map_err(|_| anyhow!("a run is denied"))?;
     show(&rt, count, ran, &bytes)
 }
