@@ -1,4 +1,4 @@
-// What a step works on, and its machine cycles in code: every access to memory and panel, and every count, is made here.
+// What a step works on, and its machine cycles in code: every access of a cycle to memory and panel, and every count, is made here.
 #![tactic(auto)]
 
 pub mod cost;
