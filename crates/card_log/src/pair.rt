@@ -49,6 +49,7 @@ pub fn replay_pair<M: Memory, N: Memory, P: Panel>(
     ensures first { so_far M.memory P.state result.first result.answers.items ≡ as_far_as P.make (map call_of (take result.served log.now)) (M.memory first) (P.state panel) }
     ensures second { so_far N.memory P.state result.second result.others.items ≡ as_far_as P.make (map call_of (take result.served log.now)) (N.memory second) (P.state other) }
     ensures difference { FirstDifference (map answer_of result.answers.items) (map answer_of result.others.items) result.difference }
+    ensures count { (vec_len result.answers ≡ result.served) × (vec_len result.others ≡ result.served) }
     ensures whole { result.complete ≡ true → result.served ≡ length log.now }
     ensures together { Together P.make (map call_of (take result.served log.now)) (M.memory first) (N.memory second) (P.state panel) (P.state other) }
 {

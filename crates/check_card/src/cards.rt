@@ -87,3 +87,17 @@ pub(crate) fn denied_as(rt: &impl Abort, denial: Denial, number: u8, layer: Laye
 pub(crate) fn asks_int0<M: Memory>(rt: &impl Abort, card: &Card<M, Script>, asked: bool) {
     assert_eq!(rt; card.panel().asks(Line::Int0), asked);
 }
+
+// A call that was denied changed nothing: neither registers nor memory, which begins with these bytes, nor the panel.
+pub(crate) fn unchanged<M: Memory>(
+    rt: &impl Abort,
+    card: &Card<M, Script>,
+    was: (Registers, Window),
+    bytes: &[u8],
+    asked: bool,
+) {
+    registers_are(rt, card, was);
+    holds(rt, card, bytes);
+    assert_eq!(rt; card.panel().last_write(), None);
+    asks_int0(rt, card, asked);
+}

@@ -1,6 +1,6 @@
 // Faults: a step that is denied changes nothing, and a run does not count it.
 use crate::cards::{
-    asking, asks_int0, denied_as, holds, over, pc_is, ran, registers_are, runs, with_room_for,
+    asking, denied_as, holds, over, pc_is, ran, registers_are, runs, unchanged, with_room_for,
 };
 use card::card::Card;
 use card::ran::{Ran, Stop};
@@ -8,7 +8,6 @@ use denial::{Denial, Fault, Layer};
 use memory::Memory;
 use panel::Panel;
 use panel::chain::Chain;
-use panel::script::Script;
 use panel::track::Track;
 use std::process::Abort;
 use std::test::Fail;
@@ -77,8 +76,10 @@ fn a_byte_that_is_no_restart(rt: HostRuntime) -> Result<(), Fail> {
     let mut bytes = ENABLING;
     let mut card = over(&mut bytes, asking(rt.alloc(), 1, 0xC6))?;
     runs(&rt, &mut card, 1000, faulted(no_restart, 2, 2, 6));
+    let was = card.registers();
     step_denied(&rt, &mut card, no_restart, &ENABLING);
-    asks_int0(&rt, &card, true);
+    unchanged(&rt, &card, was, &ENABLING, true);
     runs(&rt, &mut card, 1, faulted(no_restart, 0, 0, 0));
+    unchanged(&rt, &card, was, &ENABLING, true);
     Ok(())
 }

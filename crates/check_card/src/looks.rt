@@ -1,10 +1,11 @@
 // Looks: their lengths, bases and windows, and that the card is as it was.
-use crate::cards::{denied_as, over, pc_is, quiet, registers_are};
+use crate::cards::{denied_as, over, pc_is, quiet, registers_are, unchanged};
 use card::card::Card;
 use card::look_window::LookWindow;
 use denial::{Denial, Layer};
 use memory::Memory;
 use panel::Panel;
+use panel::script::Script;
 use registers::window::Window;
 use std::alloc::Global;
 use std::process::Abort;
@@ -100,7 +101,7 @@ fn the_largest_base(rt: HostRuntime) -> Result<(), Fail> {
     Ok(())
 }
 
-fn base_denied<M: Memory, P>(rt: &impl Abort, card: &mut Card<M, P>, cbr: u8, bbr: u8) {
+fn base_denied<M: Memory>(rt: &impl Abort, card: &mut Card<M, Script>, cbr: u8, bbr: u8) {
     let was = card.registers();
     let window = Window {
         cbar: 0x84,
@@ -113,7 +114,7 @@ fn base_denied<M: Memory, P>(rt: &impl Abort, card: &mut Card<M, P>, cbr: u8, bb
         Err(Denial::LookOutOfRange)
     );
     assert_eq!(rt; buffer, [0xAA, 0xBB]);
-    registers_are(rt, card, was);
+    unchanged(rt, card, was, &[1, 2, 3], false);
     assert_eq!(rt;
         LookWindow::try_from(window).err(),
         Some(Denial::LookOutOfRange)
@@ -128,7 +129,6 @@ fn a_base_too_large(rt: HostRuntime) -> Result<(), Fail> {
     base_denied(&rt, &mut card, 0, 128);
     base_denied(&rt, &mut card, 255, 255);
     denied_as(&rt, Denial::LookOutOfRange, 7, Layer::Card);
-    assert_eq!(rt; card.read(0), Ok(1));
     Ok(())
 }
 
@@ -146,14 +146,14 @@ fn lengths(rt: HostRuntime) -> Result<(), Fail> {
     let mut buffer = vec![in rt.alloc(); 0xAAu8; 4096]?;
     assert_eq!(rt; card.look(Window::RESET, 5, &mut buffer), Ok(()));
     all_are(&rt, &buffer, 6);
+    let was = card.registers();
     let mut buffer = vec![in rt.alloc(); 0xAAu8; 4097]?;
     assert_eq!(rt;
         card.look(Window::RESET, 5, &mut buffer),
         Err(Denial::LookOutOfRange)
     );
     all_are(&rt, &buffer, 0xAA);
-    let (_, window) = card.registers();
-    assert_eq!(rt; window, Window::RESET);
+    unchanged(&rt, &card, was, &[6; 4], false);
     Ok(())
 }
 

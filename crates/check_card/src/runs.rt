@@ -1,12 +1,13 @@
 // Runs: their budgets, and how they stop.
 use crate::cards::{
-    asking, asks_int0, denied_as, holds, over, pc_is, quiet, ran, registers_are, runs,
+    asking, asks_int0, denied_as, over, pc_is, quiet, ran, runs, unchanged,
 };
 use card::card::Card;
 use card::ran::Stop;
 use denial::{Denial, Layer};
 use memory::Memory;
 use panel::script::Script;
+use registers::registers::Mode;
 use std::process::Abort;
 use std::test::Fail;
 
@@ -14,10 +15,7 @@ use std::test::Fail;
 fn denies<M: Memory>(rt: &impl Abort, card: &mut Card<M, Script>, budget: u32) {
     let was = card.registers();
     assert_eq!(rt; card.run(budget), Err(Denial::BudgetOutOfRange));
-    registers_are(rt, card, was);
-    holds(rt, card, &[0, 0, 1, 2]);
-    assert_eq!(rt; card.panel().last_write(), None);
-    asks_int0(rt, card, false);
+    unchanged(rt, card, was, &[0, 0, 1, 2], false);
 }
 
 #[test]
@@ -85,6 +83,20 @@ fn halted_goes_before_spent(rt: HostRuntime) -> Result<(), Fail> {
     // a card that is halted makes one idle step
     runs(&rt, &mut card, 1_000_000, ran(Stop::Halted, 1, 1, 3));
     runs(&rt, &mut card, 1, ran(Stop::Halted, 1, 1, 3));
+    pc_is(&rt, &card, 2);
+    Ok(())
+}
+
+// SLP takes 3 cycles of 8 states together; asleep counts as halted, also where the budget is met.
+#[test]
+fn asleep_counts_as_halted(rt: HostRuntime) -> Result<(), Fail> {
+    let mut bytes = [0xED, 0x76];
+    let mut card = over(&mut bytes, quiet(rt.alloc()))?;
+    runs(&rt, &mut card, 8, ran(Stop::Halted, 1, 3, 8));
+    let (cpu, _) = card.registers();
+    assert_eq!(rt; cpu.mode, Mode::Asleep);
+    // a card that is asleep makes one idle step
+    runs(&rt, &mut card, 1_000_000, ran(Stop::Halted, 1, 1, 3));
     pc_is(&rt, &card, 2);
     Ok(())
 }
