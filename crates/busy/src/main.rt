@@ -25,14 +25,15 @@ const BYTES: usize = 65_536;
 // No run has a budget above a million states.
 const MOST_STEPS: u64 = 333_333;
 
-// What a run comes to.
+// What the runs come to.
 #[derive(Clone, Copy)]
-struct Ran {
+struct Timed {
     cpu: Registers,
     states: u64,
     last: Option<Sent>,
 }
 
+// As the bank of a plot is made, in plotting: each program stands alone.
 fn memory_with_image(heap: Global) -> Result<Vec<u8>, AllocError> {
     let mut bytes = Vec::from_slice(heap, &IMAGE)?;
     bytes.resize(BYTES, 0)?;
@@ -40,7 +41,8 @@ fn memory_with_image(heap: Global) -> Result<Vec<u8>, AllocError> {
 }
 
 // Runs of a card until it has made so many steps; the states that they took. A step takes three states or more, so a run of three for
-// each step that is left makes at least one and no more than are left. This image never halts, and this panel denies no step.
+// each step that is left makes at least one and no more than are left. This image never halts, and this panel denies no step. A `while`
+// on what is left would not be known to end, since that a run makes a step is not in what it answers.
 fn steps<M: Memory, P: Panel>(card: &mut Card<M, P>, count: u64) -> Result<u64, Denial> {
     let mut states = 0u64;
     let mut left = count;
@@ -56,20 +58,20 @@ fn steps<M: Memory, P: Panel>(card: &mut Card<M, P>, count: u64) -> Result<u64, 
 }
 
 // The panel's threshold stands where INT0 does not matter, since the image leaves IEF1 at 0.
-fn run(heap: Global, bytes: &mut [u8], size: BoardLength, count: u64) -> Result<Ran, Denial> {
+fn run(heap: Global, bytes: &mut [u8], size: BoardLength, count: u64) -> Result<Timed, Denial> {
     let panel = Script::new(Vec::new(heap), 0xFFFF_FFFF, 0xFF);
     let mut card = Card::new(Bank::new(bytes, size), panel);
     let states = steps(&mut card, count)?;
     let (cpu, _) = card.registers();
-    Ok(Ran {
+    Ok(Timed {
         cpu,
         states,
         last: card.panel().last_write(),
     })
 }
 
-fn show(rt: &HostRuntime, count: u64, ran: Ran, bytes: &[u8]) -> anyhow::Result<()> {
-    let Ran { cpu, states, last } = ran;
+fn show(rt: &HostRuntime, count: u64, timed: Timed, bytes: &[u8]) -> anyhow::Result<()> {
+    let Timed { cpu, states, last } = timed;
     let sum = checksum(&cpu, bytes);
     println!(rt; "steps {count}\nchecksum {sum:08X}")?;
     if let Some(Sent { port, byte }) = last {
@@ -85,6 +87,6 @@ fn main(rt: HostRuntime) -> anyhow::Result<()> {
     let count = text.as_str().trim().parse::<u64>()?;
     let mut bytes = memory_with_image(rt.alloc())?;
     let size = BoardLength::of_bank(&bytes).map_err(|_| anyhow!("the memory is too long"))?;
-    let ran = run(rt.alloc(), &mut bytes, size, count).map_err(|_| anyhow!("a run is denied"))?;
-    show(&rt, count, ran, &bytes)
+    let timed = run(rt.alloc(), &mut bytes, size, count).map_err(|_| anyhow!("a run is denied"))?;
+    show(&rt, count, timed, &bytes)
 }

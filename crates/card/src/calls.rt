@@ -89,7 +89,7 @@ impl<M: Memory, P: Panel> Card<M, P> {
                     ..ran
                 };
             }
-            if ran.states >= budget as u64 {
+            if ran.states >= u64::from(budget) {
                 return ran;
             }
         }

@@ -45,7 +45,7 @@ impl Ran {
         ensures { self.new ≡ record { stop = self.old.stop; steps = self.old.steps + 1; cycles = self.old.cycles + cost.cycles; states = self.old.states + cost.states } }
     {
         self.steps += 1;
-        self.cycles += cost.cycles as u64;
-        self.states += cost.states as u64;
+        self.cycles += u64::from(cost.cycles);
+        self.states += u64::from(cost.states);
     }
 }

@@ -28,8 +28,8 @@ pub(crate) fn quiet(heap: Global) -> Script {
 
 // A chain panel with room for so many writes.
 pub(crate) fn with_room_for(heap: Global, writes: u16) -> Result<Chain, Fail> {
-    let table = vec![in heap; Record::default(); writes as usize + 1]?;
-    Chain::new(table).map_err(|_| Fail::new("the table is denied"))
+    let table = vec![in heap; Record::default(); usize::from(writes) + 1]?;
+    Ok(Chain::new(table)?)
 }
 
 // A card over a bank of these bytes.

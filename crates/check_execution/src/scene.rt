@@ -142,7 +142,8 @@ pub fn play<M: Memory>(
     Ok(())
 }
 
-// The program stands at 1234H, in a memory of 160 KiB of zeros.
+// The program stands at 1234H, in a memory of 160 KiB of zeros. Two handles, here and in other tests, since one that ends the process
+// gives no memory, and the runtime, which has both, may not be handed on for the former.
 pub fn scene(
     rt: &impl Abort,
     heap: Global,

@@ -39,7 +39,7 @@ fn counted(r: u8, bytes: u8) -> u8 {
     r / 128 * 128 + r.wrapping_add(bytes) % 128
 }
 
-// The opcode byte that is undefined.
+// The opcode byte that is undefined. The test has its own, with what it expects, and not that of what it tests.
 #[derive(Clone, Copy)]
 enum Undefined {
     Second,

@@ -12,6 +12,7 @@ fn write_through(bytes: &mut [u8], size: BoardLength, at: u32, byte: u8)
     ensures { bytes.exit.now ≡ bank_run (record { bytes = bytes.entry; length = bytes_of size }) at byte }
 {
     let mut bank = Bank::new(bytes, size);
+    // a denied write leaves them too, as the contract has it
     let _ = bank.write(at, byte);
 }
 

@@ -31,7 +31,7 @@ fn naming(port: u16, byte: u8, next: u16) -> Record {
 // A panel over a table of so many records of garbage.
 fn panel_of(heap: Global, records: usize) -> Result<Chain, Fail> {
     let table = vec![in heap; GARBAGE; records]?;
-    Chain::new(table).map_err(|_| Fail::new("the table is denied"))
+    Ok(Chain::new(table)?)
 }
 
 fn write_all(panel: &mut Chain, writes: &[(u16, u8)]) -> Result<(), Fail> {

@@ -15,7 +15,7 @@ use std::test::Fail;
 // A panel of 64 records after these writes.
 fn panel_after(heap: Global, writes: &[(u16, u8)]) -> Result<Chain, Fail> {
     let table = vec![in heap; Record::default(); 64]?;
-    let mut panel = Chain::new(table).map_err(|_| Fail::new("the table is denied"))?;
+    let mut panel = Chain::new(table)?;
     for (port, byte) in writes {
         panel.write(*port, *byte)?;
     }

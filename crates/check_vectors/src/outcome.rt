@@ -1,7 +1,7 @@
 // What stands after a step, as numbers with names.
 use crate::access::Access;
 use machine::cost::Cost;
-use registers::registers::{InterruptMode, Mode, RegisterSet, Registers};
+use registers::registers::{RegisterSet, Registers};
 use registers::window::Window;
 
 #[derive(Clone, Copy, PartialEq, Eq)]
@@ -31,23 +31,6 @@ pub const OUTSIDE: [&str; 16] = [
     "cell 3", "code 1", "code 2", "code 3", "code 4", "astray",
 ];
 
-// Modes as numbers, as a vector has them.
-fn interrupt_mode(mode: InterruptMode) -> u32 {
-    match mode {
-        InterruptMode::Zero => 0,
-        InterruptMode::One => 1,
-        InterruptMode::Two => 2,
-    }
-}
-
-fn mode(mode: Mode) -> u32 {
-    match mode {
-        Mode::Running => 0,
-        Mode::Halted => 1,
-        Mode::Asleep => 2,
-    }
-}
-
 // In the order of MAIN and ALTERNATE.
 pub fn set(set: &RegisterSet) -> [u32; 8] {
     let f = u8::from(set.f);
@@ -67,8 +50,6 @@ impl Outcome {
     // In the order of SINGLE.
     pub fn single(&self) -> [u32; 14] {
         let cpu = &self.cpu;
-        let im = interrupt_mode(cpu.im);
-        let mode = mode(cpu.mode);
         [
             u32::from(cpu.ix),
             u32::from(cpu.iy),
@@ -78,8 +59,9 @@ impl Outcome {
             u32::from(cpu.r),
             u32::from(cpu.ief1),
             u32::from(cpu.ief2),
-            im,
-            mode,
+            // as a vector has them: 0, 1 and 2 in order
+            cpu.im as u32,
+            cpu.mode as u32,
             u32::from(cpu.ei),
             u32::from(cpu.il),
             u32::from(cpu.itc),

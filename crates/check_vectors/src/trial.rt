@@ -15,45 +15,34 @@ fn places(pc: u16) -> [u32; 4] {
     [0, 1, 2, 3].map(|behind| u32::from(pc.wrapping_add(behind)))
 }
 
-fn put_code<M: Memory>(memory: &mut M, pc: u16, code: [u8; 4]) -> Result<(), Denial> {
-    for (at, byte) in places(pc).iter().zip(code.iter()) {
+fn write<const N: usize, M: Memory>(
+    memory: &mut M,
+    places: [u32; N],
+    bytes: [u8; N],
+) -> Result<(), Denial> {
+    for (at, byte) in places.iter().zip(bytes.iter()) {
         memory.write(*at, *byte)?;
     }
     Ok(())
 }
 
-fn code<M: Memory>(memory: &M, pc: u16) -> Result<[u8; 4], Denial> {
-    let [first, second, third, fourth] = places(pc);
-    Ok([
-        memory.read(first)?,
-        memory.read(second)?,
-        memory.read(third)?,
-        memory.read(fourth)?,
-    ])
-}
-
-fn cells<M: Memory>(memory: &M, vector: &Vector) -> Result<[u8; 3], Denial> {
-    let [first, second, third] = vector.cells;
-    Ok([
-        memory.read(first.at)?,
-        memory.read(second.at)?,
-        memory.read(third.at)?,
-    ])
-}
-
-fn put_all<M: Memory>(memory: &mut M, vector: &Vector) -> Result<(), Denial> {
-    for cell in &vector.cells {
-        memory.write(cell.at, cell.before)?;
+fn read<const N: usize, M: Memory>(memory: &M, places: [u32; N]) -> Result<[u8; N], Denial> {
+    let mut bytes = [0; N];
+    for (byte, at) in bytes.iter_mut().zip(places.iter()) {
+        *byte = memory.read(*at)?;
     }
-    put_code(memory, vector.cpu.pc, vector.code)
+    Ok(bytes)
 }
 
-// Puts 00 back.
-fn take_all<M: Memory>(memory: &mut M, vector: &Vector) -> Result<(), Denial> {
-    for cell in &vector.cells {
-        memory.write(cell.at, 0)?;
-    }
-    put_code(memory, vector.cpu.pc, [0; 4])
+// Puts bytes into the vector's cells, and others at its PC.
+fn put<M: Memory>(
+    memory: &mut M,
+    vector: &Vector,
+    cells: [u8; 3],
+    code: [u8; 4],
+) -> Result<(), Denial> {
+    write(memory, vector.cells.map(|cell| cell.at), cells)?;
+    write(memory, places(vector.cpu.pc), code)
 }
 
 // The step, and all but whether another byte changed; the vector's bytes are 00 again. It is denied where a cell lies
@@ -70,11 +59,16 @@ pub fn stepped<M: Memory + Drop>(memory: M, vector: &Vector) -> Result<Outcome, 
         panel,
         spent: Cost::default(),
     };
-    put_all(&mut card.memory, vector)?;
+    put(
+        &mut card.memory,
+        vector,
+        vector.cells.map(|cell| cell.before),
+        vector.code,
+    )?;
     let cost = step(&mut card).map_err(|fault| fault.denial)?;
-    let cells = cells(&card.memory, vector)?;
-    let code = code(&card.memory, vector.cpu.pc)?;
-    take_all(&mut card.memory, vector)?;
+    let cells = read(&card.memory, vector.cells.map(|cell| cell.at))?;
+    let code = read(&card.memory, places(vector.cpu.pc))?;
+    put(&mut card.memory, vector, [0; 3], [0; 4])?;
     Ok(Outcome {
         cpu: card.cpu,
         window: card.window,

@@ -7,6 +7,7 @@ ghost use Rattle.cycles.specs.Footprint.{TreeLaws};
 use panel::Panel;
 
 // Of every tree of machine cycles, whatever type of value it comes to, with every make of panel.
+#[tactic(auto, using(crate::proofs::Trees::laws))]
 pub fn tree_laws<V, P: Panel>()
     ensures { TreeLaws V P.Panel.make }
 {}

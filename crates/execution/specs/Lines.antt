@@ -1,4 +1,4 @@
--- How INT1 and INT2 are served. Assumes nothing.
+-- How INT1 and INT2 are served, and INT0 in mode 2. Assumes nothing.
 use Rattle.std.specs.Prelude.{ℕ, ◌*◌}
 use Rattle.panel.specs.declared.line.Line.{Line}
 use Rattle.registers.specs.Registers.{Processor, up}

@@ -22,8 +22,9 @@ use registers::operand::Index;
 use transfers::block::on_block;
 use transfers::port::on_port;
 
-// The displacement, where there is one, stood before the last opcode byte; where there is none it is 0, as in the definition, and
-// no form asks for it. PREFIXED has this compiled twice, so that a first byte leads straight to its instruction.
+// The displacement, where there is one, stood before the last opcode byte; where there is none it is 0, as in the definition: an Option
+// would be taken apart in each form that asks for it, where it is never None. PREFIXED has this compiled twice, so that a first byte
+// leads straight to its instruction.
 fn carry_out<const PREFIXED: bool, M: Memory, P: Panel>(
     m: &mut Machine<M, P>,
     instruction: Instruction,

@@ -29,7 +29,7 @@ impl<M: Memory, P: Panel> Machine<M, P> {
             self.cpu
                 .write_port(&mut self.window, (port % 256) as u8, byte);
         } else {
-            // a step begins only while the panel is not full
+            // a denial is passed over: a panel that is full stays as it is, as the definition has it
             let _ = self.panel.write(port, byte);
         }
     }

@@ -9,6 +9,7 @@ pub struct Machine<M, P> {
     pub window: Window,
     pub memory: M,
     pub panel: P,
-    // Of the step under way. Each `requires` bounds it by Below n, which falls from caller to callee: no one invariant holds it.
+    // Of the step under way. Each `requires` bounds it by Below n; cycles add to it, so that n rises along the calls: no one invariant
+    // holds it.
     pub spent: Cost,
 }

@@ -21,7 +21,8 @@ pub struct Chain {
     table: Vec<Record>,
     // one for each chain
     spans: [Span; 3],
-    // how many records are used: these are 1, 2 and so on
+    // how many records are used: these are 1, 2 and so on. It stands beside the table, since that is as long as the host made it, and
+    // all of it goes back.
     used: u16,
     key: u8,
     latch: bool,

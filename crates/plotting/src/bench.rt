@@ -14,7 +14,7 @@ pub(crate) const BYTES: usize = 65_536;
 // The records of the panel's table.
 const RECORDS: usize = 64;
 
-// The image with zeros behind it.
+// The image with zeros behind it. The busy image is put so too, in busy: each program stands alone.
 pub(crate) fn bank_bytes(heap: Global, image: &[u8]) -> Result<Vec<u8>, AllocError>
     requires { length image.now ≤ 65536 }
     ensures { IfOk result (λ v. v.items ≡ filled image.now) }

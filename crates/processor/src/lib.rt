@@ -10,6 +10,7 @@ ghost use Rattle.processor.specs.Seclusion.{StepLaws};
 use panel::Panel;
 
 // With every make of panel: what a step does depends on no page that is not mapped, and it changes at most two bytes.
+#[tactic(auto, using(crate::proofs::Steps::laws))]
 pub fn step_laws<P: Panel>()
     ensures { StepLaws P.Panel.make }
 {}
@@ -20,11 +21,13 @@ pub fn isolation<P: Panel>()
 {}
 
 // What isolation presumes can be met, also by a log that changes the window.
+#[tactic(auto, using(crate::proofs::Presumed::met))]
 pub fn presumption_met()
     ensures { PresumptionMet }
 {}
 
 // A denied call changes nothing.
+#[tactic(auto, using(crate::proofs::Denying::laws))]
 pub fn denial_laws<P: Panel>()
     ensures { DenialLaws P.Panel.make }
 {}

@@ -27,9 +27,7 @@ impl<'a> Iterator for Walk<'a> {
             return None;
         }
         let number = self.number;
-        let Some(record) = self.panel.record(number) else {
-            return None;
-        };
+        let record = self.panel.record(number)?;
         self.number = record.next;
         self.most -= 1;
         Some((number, record))

@@ -1,3 +1,4 @@
+-- Tried: by using(..) on the function the check does not find it. Assumes nothing.
 use Rattle.processor.proofs.Logs as logs
 use Rattle.processor.proofs.isolation.Goals as goal
 
