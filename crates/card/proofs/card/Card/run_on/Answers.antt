@@ -16,16 +16,16 @@ returns-then-rests g c =
     ap (λ (r : Ran). came g.M.Memory.memory g.P.Panel.state (record r { stop = Halted }) c.step.new.self) c.count.ensures
     ∙ (rested g.P.Panel.make c.args.budget c.loop.ran.steps (record { cycles = c.loop.ran.cycles; states = c.loop.ran.states }) _ _ (record { cycles = c.in-Ok.cost.cycles; states = c.in-Ok.cost.states }) (omega arith) c.in-Ok.ensures.turn c.if-rests.ensures ∙ c.loop.invariant.so_far)
 
-pub returns-then-ran-budget : goal.returns-then-ran-budget
-returns-then-ran-budget g c =
+pub returns-then-ran-from : goal.returns-then-ran-from
+returns-then-ran-from g c =
     let was = rw c.loop.invariant.stop at c.count.ensures in
-    let over : true ≡ leb c.args.budget (c.loop.ran.states + c.in-Ok.cost.states) = grind (arith, nat_tests, ap (λ (r : Ran). r.states) c.count.ensures) in
+    let over : true ≡ leb c.args.budget (c.loop.ran.states + c.in-Ok.cost.states) = grind (arith, nat_tests, ap (λ (r : Ran). r.states) c.count.ensures, c.from.ensures) in
     ap (λ (r : Ran). came g.M.Memory.memory g.P.Panel.state r c.step.new.self) was
     ∙ (spends g.P.Panel.make c.args.budget c.loop.ran.steps (record { cycles = c.loop.ran.cycles; states = c.loop.ran.states }) _ _ (record { cycles = c.in-Ok.cost.cycles; states = c.in-Ok.cost.states }) (omega arith) c.in-Ok.ensures.turn c.if-rests.ensures over ∙ c.loop.invariant.so_far)
 
 pub loop-preserved : goal.loop-preserved
 loop-preserved g c =
-    let under : false ≡ leb c.args.budget (c.loop.ran.states + c.in-Ok.cost.states) = grind (arith, nat_tests, ap (λ (r : Ran). r.states) c.count.ensures) in
+    let under : false ≡ leb c.args.budget (c.loop.ran.states + c.in-Ok.cost.states) = grind (arith, nat_tests, ap (λ (r : Ran). r.states) c.count.ensures, c.from.ensures) in
     record {
       so_far =
           ap (λ (r : Ran). came_to (run_on g.P.Panel.make c.args.budget (c.args.budget - r.steps) r.steps (record { cycles = r.cycles; states = r.states }) (model g.M.Memory.memory g.P.Panel.state c.step.new.self))) c.count.ensures
