@@ -1,7 +1,5 @@
 // Runs: their budgets, and how they stop.
-use crate::cards::{
-    asking, asks_int0, denied_as, over, pc_is, quiet, ran, runs, unchanged,
-};
+use crate::cards::{asking, asks_int0, denied_as, over, pc_is, quiet, ran, runs, unchanged};
 use card::card::Card;
 use card::ran::Stop;
 use denial::{Denial, Layer};

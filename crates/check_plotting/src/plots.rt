@@ -45,10 +45,15 @@ fn a_panel_that_is_full(rt: HostRuntime) -> Result<(), Fail> {
         image.extend_from_slice(&[0xED, 0x39, 0x80])?;
     }
     let text = plot(rt.alloc(), &image)?;
-    assert!(rt; text.as_str().starts_with(
-        "stop=fault steps=64 cycles=317 states=825\npc=00BF sp=0000 af=0100 cbar=F0\npen 1 0080 01 2\npen 2 0080 01 3\n"
-    ));
-    assert!(rt; text.as_str().ends_with("pen 62 0080 01 63\npen 63 0080 01 0\n"));
+    assert!(rt;
+        text.as_str().starts_with(
+            "stop=fault steps=64 cycles=317 states=825\npc=00BF sp=0000 af=0100 cbar=F0\npen 1 0080 01 2\npen 2 0080 01 3\n"
+        )
+    );
+    assert!(rt;
+        text.as_str()
+            .ends_with("pen 62 0080 01 63\npen 63 0080 01 0\n")
+    );
     assert_eq!(rt; text.as_str().lines().count(), 65);
     Ok(())
 }
