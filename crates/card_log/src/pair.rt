@@ -2,7 +2,7 @@
 ghost use Rattle.answers.specs.Answers.{answer_of, call_of};
 ghost use Rattle.card.specs.Cards.{model};
 ghost use Rattle.card_log.specs.Replays.{FirstDifference, Together, as_far_as, reached, so_far};
-ghost use Rattle.std.specs.Prelude.{◌≡◌, [], true, map, length, take, OnOk, vec_len};
+ghost use Rattle.std.specs.Prelude.{◌≡◌, ◌<◌, [], true, false, map, length, take, OnErr, OnOk, vec_len};
 
 use crate::difference::first_difference;
 use crate::replayed::ReplayedPair;
@@ -25,6 +25,7 @@ fn serve_both<M: Memory, N: Memory, P: Panel>(
     ensures second { so_far N.memory P.state second.new.card second.new.answers.items ≡ reached P.make (map call_of (take (vec_len first.new.answers) log.now)) (model N.memory P.state second.old.card) }
     ensures even { vec_len first.new.answers ≡ vec_len second.new.answers }
     ensures whole { OnOk result (vec_len first.new.answers ≡ length log.now) }
+    ensures cut_short { OnErr result (vec_len first.new.answers < length log.now) }
 {
     for call in log {
         // all the memory of a line is got before it is served on either
@@ -51,6 +52,7 @@ pub fn replay_pair<M: Memory, N: Memory, P: Panel>(
     ensures difference { FirstDifference (map answer_of result.answers.items) (map answer_of result.others.items) result.difference }
     ensures count { (vec_len result.answers ≡ result.served) × (vec_len result.others ≡ result.served) }
     ensures whole { result.complete ≡ true → result.served ≡ length log.now }
+    ensures cut_short { result.complete ≡ false → result.served < length log.now }
     ensures together { Together P.make (map call_of (take result.served log.now)) (M.memory first) (N.memory second) (P.state panel) (P.state other) }
 {
     let mut one = Session::new(heap, first, panel);

@@ -1,7 +1,7 @@
 // The log of one card, from its making on.
 ghost use Rattle.answers.specs.Answers.{call_of};
 ghost use Rattle.card_log.specs.Replays.{Alone, as_far_as, so_far};
-ghost use Rattle.std.specs.Prelude.{◌≡◌, true, map, length, take, vec_len};
+ghost use Rattle.std.specs.Prelude.{◌≡◌, ◌<◌, true, false, map, length, take, vec_len};
 
 use crate::replayed::Replayed;
 use crate::session::Session;
@@ -20,6 +20,7 @@ pub fn replay<M: Memory, P: Panel>(
     ensures replayed { so_far M.memory P.state result.card result.answers.items ≡ as_far_as P.make (map call_of (take result.served log.now)) (M.memory memory) (P.state panel) }
     ensures count { vec_len result.answers ≡ result.served }
     ensures whole { result.complete ≡ true → result.served ≡ length log.now }
+    ensures cut_short { result.complete ≡ false → result.served < length log.now }
     ensures alone { Alone P.make (map call_of (take result.served log.now)) (M.memory memory) (P.state panel) }
 {
     let mut session = Session::new(heap, memory, panel);

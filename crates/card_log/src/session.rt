@@ -3,7 +3,7 @@ ghost use Rattle.answers.specs.Answers.{answer_of, call_of};
 ghost use Rattle.card.specs.Cards.{model};
 ghost use Rattle.card_log.specs.Replays.{more, reached, so_far};
 ghost use Rattle.processor.specs.Log.{made};
-ghost use Rattle.std.specs.Prelude.{◌≡◌, ◌+◌, ◌<◌, [], IfOk, OnOk, if◌then◌else◌, length, map, take, is_ok, vec_len, vec_capacity};
+ghost use Rattle.std.specs.Prelude.{◌≡◌, ◌+◌, ◌<◌, [], IfOk, OnErr, OnOk, if◌then◌else◌, length, map, take, is_ok, vec_len, vec_capacity};
 
 use crate::line::Line;
 use answers::answer::Answer;
@@ -57,6 +57,7 @@ impl<M: Memory, P: Panel> Session<M, P> {
         requires { self.old.answers.items ≡ [] }
         ensures so_far { so_far M.memory P.state self.new.card self.new.answers.items ≡ reached P.make (map call_of (take (vec_len self.new.answers) log.now)) (model M.memory P.state self.old.card) }
         ensures whole { OnOk result (vec_len self.new.answers ≡ length log.now) }
+        ensures cut_short { OnErr result (vec_len self.new.answers < length log.now) }
     {
         for call in log {
             let line = self.ready(heap, *call)?;
