@@ -6,3 +6,4 @@ pub mod Time
 pub mod Runs
 pub mod Frame
 pub mod Asleep
+pub mod Resets

@@ -2,13 +2,14 @@
 use Rattle.std.specs.Prelude.{◌≡◌, ℕ, true, false, List, [], ◌∷◌}
 use Rattle.panel.specs.Panel.{Make}
 use Rattle.panel.specs.Script.{script_make}
-use Rattle.registers.specs.Registers.{Processor}
+use Rattle.registers.specs.declared.registers.Mode.TheVariants.{Asleep, Halted}
+use Rattle.registers.specs.Registers.{Processor, with_mode}
 use Rattle.cycles.specs.Play.{Began, World, answer_of, byte_at, no_time, world, world_after}
 use Rattle.cycles.specs.Tree.{Cycles, Cycles.done, Cycles.fetch, Cycles.read, Cycles.write, Cycles.input, Cycles.output, Cycles.acknowledge, Cycles.internal}
 use Rattle.processor.specs.Step.{Model, began, cycles_of}
 use Rattle.processor_laws.specs.Bench.{card, memory_with, quiet}
 use Rattle.processor_laws.specs.Examples.{filled}
-use Rattle.processor_laws.specs.Interrupts.{asking_make, panel_asks, ready}
+use Rattle.processor_laws.specs.Interrupts.{asking_make, nobody, panel_asks, ready}
 
 -- The logical addresses that a row of cycles uses, in order.
 abbrev pub used : {S : Type 0} {n : ℕ} → Make S → Began → Cycles Processor n → World S → List ℕ
@@ -51,3 +52,6 @@ pub record Orders : Type 0 where
   pub trap : addresses (0xDD ∷ 0xCB ∷ 0x02 ∷ 0x30 ∷ []) ≡ (0x1000 ∷ 0x1001 ∷ 0x1002 ∷ 0x1003 ∷ 0x8FFF ∷ 0x8FFE ∷ [])
   -- INT1 pushes PC before it reads the table
   pub vectored : used_by asking_make (card ready (memory_with [] []) (panel_asks false false true false 0xFF)) ≡ (0x8FFF ∷ 0x8FFE ∷ 0x20E0 ∷ 0x20E1 ∷ [])
+  -- halted, and asleep, with nothing asked for, a card uses no memory
+  pub halted : used_by asking_make (card (with_mode Halted ready) (memory_with [] []) nobody) ≡ []
+  pub asleep : used_by asking_make (card (with_mode Asleep ready) (memory_with [] []) nobody) ≡ []

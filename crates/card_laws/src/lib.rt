@@ -6,6 +6,7 @@ ghost use Rattle.card_laws.specs.Asleep.{IdlesBehindEi};
 ghost use Rattle.card_laws.specs.Every.{Branches, Every};
 ghost use Rattle.card_laws.specs.Frame.{Frame};
 ghost use Rattle.card_laws.specs.Order.{Orders};
+ghost use Rattle.card_laws.specs.Resets.{Resets};
 ghost use Rattle.card_laws.specs.Runs.{RunLaws};
 ghost use Rattle.card_laws.specs.Time.{StepTime};
 ghost use Rattle.card_laws.specs.Worked.{WorkedNumbers};
@@ -40,4 +41,8 @@ pub fn run_laws<P: Panel>()
 
 pub fn trap_frame<P: Panel>()
     ensures { Frame P.Panel.make }
+{}
+
+pub fn reset_values<P: Panel>()
+    ensures { Resets P.Panel.State }
 {}

@@ -4,7 +4,7 @@ use Rattle.processor_laws.proofs.examples.Goals as goal
 pub returns : goal.returns
 returns c = record {
   loads = record { from_memory = refl; from_memory_pointers = refl; to_indexed = refl; to_indexed_pointers = refl; to_indexed_byte = refl; word_to_address = refl; word_to_address_pointers = refl; word_to_address_byte_1 = refl; word_to_address_byte_2 = refl; refresh = refl; refresh_pointers = refl; refresh_count = refl; stack_pointer = refl; stack_pointer_pointers = refl; to_refresh = refl; to_refresh_count = refl };
-  exchanges = record { push = refl; push_pointers = refl; push_byte_1 = refl; push_byte_2 = refl; pop = refl; pop_pointers = refl; stack_top = refl; stack_top_pointers = refl; stack_top_byte_1 = refl; stack_top_byte_2 = refl; de_and_hl = refl; de_and_hl_pointers = refl; push_index = refl; push_index_pointers = refl; push_index_byte_1 = refl; push_index_byte_2 = refl; stack_index = refl; stack_index_pointers = refl; stack_index_byte_1 = refl; stack_index_byte_2 = refl };
+  exchanges = record { push = refl; push_pointers = refl; push_byte_1 = refl; push_byte_2 = refl; pop = refl; pop_pointers = refl; pop_count = refl; stack_top = refl; stack_top_pointers = refl; stack_top_byte_1 = refl; stack_top_byte_2 = refl; de_and_hl = refl; de_and_hl_pointers = refl; push_index = refl; push_index_pointers = refl; push_index_byte_1 = refl; push_index_byte_2 = refl; stack_index = refl; stack_index_pointers = refl; stack_index_byte_1 = refl; stack_index_byte_2 = refl };
   calculations = record { with_carry = refl; with_carry_pointers = refl; words = refl; words_pointers = refl; product = refl; product_pointers = refl; increment = refl; increment_pointers = refl; increment_byte = refl; index = refl; index_pointers = refl; negation = refl; negation_pointers = refl; comparison = refl; comparison_pointers = refl; stack_down = refl; stack_down_pointers = refl };
   rotations = record { accumulator = refl; accumulator_pointers = refl; indexed = refl; indexed_pointers = refl; indexed_byte = refl; indexed_count = refl; digits_left = refl; digits_left_pointers = refl; digits_left_byte = refl; digits_right = refl; digits_right_pointers = refl; digits_right_byte = refl; shift = refl; shift_pointers = refl };
   single_bits = record { test = refl; test_pointers = refl; test_byte = refl; reset = refl; reset_pointers = refl; set = refl; set_pointers = refl; set_byte = refl; test_indexed = refl; test_indexed_pointers = refl; test_indexed_byte = refl };
