@@ -16,6 +16,7 @@ use registers::operand::Pair;
 use registers::registers::Registers;
 
 // A test, reset or set of a bit; the displacement, where there is one, stood before the last opcode byte.
+#[inline(always)]
 pub fn on_bit<M: Memory, P: Panel>(m: &mut Machine<M, P>, form: Bit, displacement: u8)
     requires { Below 400 m.old }
     ensures { Ends P.make M.memory P.state (bits_of form displacement) m.old m.new }

@@ -27,6 +27,7 @@ use registers::operand::{Direction, Index, Pair};
 use registers::registers::Registers;
 
 // A calculation.
+#[inline(always)]
 pub fn calculate<M: Memory, P: Panel>(m: &mut Machine<M, P>, form: Arithmetic)
     requires { Below 400 m.old }
     ensures { Ends P.make M.memory P.state (calculates form) m.old m.new }
@@ -94,6 +95,7 @@ pub fn calculate<M: Memory, P: Panel>(m: &mut Machine<M, P>, form: Arithmetic)
 }
 
 // A and F after one of the eight operations with a byte.
+#[inline(always)]
 fn operate(cpu: &mut Registers, operation: Operation, byte: u8)
     ensures { cpu.new ≡ of.operated operation byte cpu.old }
 {

@@ -18,6 +18,7 @@ use panel::Panel;
 use registers::operand::{Pair, Register};
 
 // A rotate or a shift; the displacement, where there is one, stood before the last opcode byte.
+#[inline(always)]
 pub fn rotate<M: Memory, P: Panel>(m: &mut Machine<M, P>, form: Rotation, displacement: u8)
     requires { Below 400 m.old }
     ensures { Ends P.make M.memory P.state (rotates form displacement) m.old m.new }

@@ -12,6 +12,7 @@ use panel::Panel;
 use registers::operand::Condition;
 
 // A call, a return or a restart.
+#[inline(always)]
 pub fn call_or_return<M: Memory, P: Panel>(m: &mut Machine<M, P>, form: Call)
     requires { Below 400 m.old }
     ensures { Ends P.make M.memory P.state (calls form) m.old m.new }

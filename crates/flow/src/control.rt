@@ -15,6 +15,7 @@ use panel::Panel;
 use registers::registers::{Mode, Registers};
 
 // What the processor does to itself.
+#[inline(always)]
 pub fn control<M: Memory, P: Panel>(m: &mut Machine<M, P>, form: Control)
     requires { Below 400 m.old }
     ensures { Ends P.make M.memory P.state (controls form) m.old m.new }

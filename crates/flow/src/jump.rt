@@ -14,6 +14,7 @@ use panel::Panel;
 use registers::operand::{Condition, Pair};
 
 // A jump.
+#[inline(always)]
 pub fn jump<M: Memory, P: Panel>(m: &mut Machine<M, P>, form: Jump)
     requires { Below 400 m.old }
     ensures { Ends P.make M.memory P.state (jumps form) m.old m.new }

@@ -14,6 +14,7 @@ use registers::operand::Pair;
 use std::mem::swap;
 
 // An exchange, or the stack.
+#[inline(always)]
 pub fn exchange<M: Memory, P: Panel>(m: &mut Machine<M, P>, form: Exchange)
     requires { Below 400 m.old }
     ensures { Ends P.make M.memory P.state (exchanges form) m.old m.new }

@@ -20,6 +20,7 @@ use panel::Panel;
 use registers::operand::{Index, Pair, Pointer, Register};
 
 // A load. Two opcodes load HL from an address, and two store it; they differ only in what was fetched before.
+#[inline(always)]
 pub fn load<M: Memory, P: Panel>(m: &mut Machine<M, P>, form: Load)
     requires { Below 400 m.old }
     ensures { Ends P.make M.memory P.state (loads form) m.old m.new }

@@ -15,6 +15,7 @@ use registers::operand::Index;
 
 impl<M: Memory, P: Panel> Machine<M, P> {
     // Two operand bytes, low first.
+    #[inline(always)]
     pub fn word_operand(&mut self) -> u16
         requires { Below 1000 self.old }
         ensures { Gives {n = 0} P.make M.memory P.state (λ p. parts.word_operand p got) self.old result self.new }
@@ -41,6 +42,7 @@ impl<M: Memory, P: Panel> Machine<M, P> {
     }
 
     // The low byte is read, or written, first.
+    #[inline(always)]
     pub fn read_word(&mut self, at: u16) -> u16
         requires { Below 1000 self.old }
         ensures { Gives {n = 0} P.make M.memory P.state (λ p. parts.read_word at (λ v. got v p)) self.old result self.new }
@@ -60,6 +62,7 @@ impl<M: Memory, P: Panel> Machine<M, P> {
     }
 
     // The stack grows downward: the high byte is pushed first, and the low one popped first.
+    #[inline(always)]
     pub fn push(&mut self, value: u16)
         requires { Below 1000 self.old }
         ensures { Ends {n = 2} P.make M.memory P.state (λ p. parts.push value p tree.done) self.old self.new }
@@ -71,6 +74,7 @@ impl<M: Memory, P: Panel> Machine<M, P> {
         self.cpu.sp = sp.wrapping_sub(2);
     }
 
+    #[inline(always)]
     pub fn pop(&mut self) -> u16
         requires { Below 1000 self.old }
         ensures { Gives {n = 0} P.make M.memory P.state (λ p. parts.pop p got) self.old result self.new }

@@ -20,6 +20,7 @@ use registers::operand::{Direction, Pair};
 use registers::registers::Registers;
 
 // A transfer or a comparison.
+#[inline(always)]
 pub fn on_block<M: Memory, P: Panel>(m: &mut Machine<M, P>, form: Block)
     requires { Below 400 m.old }
     ensures { Ends P.make M.memory P.state (blocks form) m.old m.new }
@@ -64,6 +65,7 @@ fn matched(cpu: &mut Registers, way: Direction, byte: u8)
 }
 
 // LDI and LDD
+#[inline(always)]
 fn transfer_byte<M: Memory, P: Panel>(m: &mut Machine<M, P>, way: Direction)
     requires { Below 550 m.old }
     ensures { Ends P.make M.memory P.state (blocks (form.Transfer way)) m.old m.new }

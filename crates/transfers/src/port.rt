@@ -27,6 +27,7 @@ use registers::operand::{Direction, Pair, Register};
 use registers::registers::Registers;
 
 // An input or an output.
+#[inline(always)]
 pub fn on_port<M: Memory, P: Panel>(m: &mut Machine<M, P>, form: Port)
     requires { Below 400 m.old }
     ensures { Ends P.make M.memory P.state (ports form) m.old m.new }
