@@ -11,7 +11,7 @@ use std::alloc::Global;
 use std::process::Abort;
 use std::test::Fail;
 
-// 80 KiB of zeros but for some bytes, each at its address.
+// 80 KiB of zeros but for some bytes, each at its address. Two handles, since one that ends the process gives no memory.
 fn image(rt: &impl Abort, heap: Global, marks: &[(usize, u8)]) -> Result<Vec<u8>, Fail> {
     let mut bytes = vec![in heap; 0u8; 81_920]?;
     for (at, byte) in marks {

@@ -55,7 +55,7 @@ fn pages_that_are_never_opened(rt: HostRuntime) -> Result<(), Fail> {
     Ok(())
 }
 
-// A byte at an address is patched on the second card.
+// A byte at an address is patched on the second card. Two handles, since one that ends the process gives no memory.
 fn patched_at(rt: &impl Abort, heap: Global, address: u32, line: usize) -> Result<(), Fail> {
     let mut bytes = vec![in heap; 0u8; 65_536]?;
     let mut others = vec![in heap; 0u8; 65_536]?;

@@ -92,7 +92,7 @@ fn two_records(rt: HostRuntime) -> Result<(), Fail> {
 
 const PLOT: [(u16, u8); 4] = [(0x0080, 1), (0x0081, 2), (0xFF80, 3), (0x0080, 4)];
 
-// A panel of 5 records that is full.
+// A panel of 5 records that is full. Two handles, since one that ends the process gives no memory.
 fn full_panel(rt: &impl Abort, heap: Global) -> Result<Chain, Fail> {
     let mut panel = panel_of(heap, 5)?;
     panel.set_key(9);

@@ -22,6 +22,7 @@ fn panel_after(heap: Global, writes: &[(u16, u8)]) -> Result<Chain, Fail> {
     Ok(panel)
 }
 
+// Two handles, since one that ends the process gives no memory.
 fn lists(
     rt: &impl Abort,
     heap: Global,

@@ -33,6 +33,7 @@ impl Reader<'_> {
         })
     }
 
+    // This and the next are matched by digit, as the source is: why stands there, in vector.rt.
     fn interrupt_mode(&mut self) -> Option<InterruptMode> {
         match self.digit()? {
             0 => Some(InterruptMode::Zero),
