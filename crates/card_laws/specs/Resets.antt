@@ -1,4 +1,4 @@
--- What reset leaves, each value as the data book prints it. Assumes nothing.
+-- What reset leaves, value by value. Assumes nothing.
 use Rattle.std.specs.Prelude.{◌≡◌, ℕ, Bool, false}
 use Rattle.arithmetic.specs.Flags.{from}
 use Rattle.registers.specs.declared.registers.InterruptMode.TheVariants.{Zero}
