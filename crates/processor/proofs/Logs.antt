@@ -9,7 +9,7 @@ use Rattle.registers.specs.Window.{physical_of}
 use Rattle.cycles.specs.Footprint.{Kept, OpensWithin, on_pages}
 use Rattle.cycles.specs.Play.{Tally, no_time}
 use Rattle.cycles.proofs.Trees as trees
-use Rattle.processor.specs.Isolation.{Alike, ChangesFew, Each, Isolated, Isolation, LookWithin, StaysWithin, StepWithin}
+use Rattle.processor.specs.Isolation.{Alike, ChangesFew, Each, Isolated, Isolation, IsolationFrom, LookWithin, StaysWithin, StepWithin}
 use Rattle.processor.specs.Log.{Answer.ran, Answer.saw, Answer.stepped, Call, Call.looking, Call.resetting, Call.running, Call.stepping, Line, after_run, line, made, replay_from, serve}
 use Rattle.processor.specs.Run.{Finished, Stop, Stop.fault, Stop.halted, Stop.spent, after_answer, finished, goes_on, is_budget, is_look, looked, rests, run, run_on, sum_of}
 use Rattle.processor.specs.Step.{Faulted, Model, step}
@@ -143,7 +143,7 @@ module _ {S : Type 0} (make : Make S) (pages : ℕ → Bool) where
   replay_few [] c = tt
   replay_few (call ∷ calls) c = each_append ChangesFew (serve make call c).steps _ (serve_few call c) (replay_few calls (serve make call c).card)
 
-  replay_both : (calls : List Call) (c d : Model S) → Alike pages c d → StaysWithin pages make calls c → Isolated pages c.mem d.mem (replay_from make calls c) (replay_from make calls d)
+  pub replay_both : (calls : List Call) (c d : Model S) → Alike pages c d → StaysWithin pages make calls c → Isolated pages c.mem d.mem (replay_from make calls c) (replay_from make calls d)
   replay_both [] c d alike within = record {
     answers = refl;
     alike = alike;
@@ -164,6 +164,9 @@ module _ {S : Type 0} (make : Make S) (pages : ℕ → Bool) where
         second_steps = replay_few (call ∷ calls) d;
       }
 
+pub isolation_from : {S : Type 0} (make : Make S) → IsolationFrom make
+isolation_from make pages calls c d alike at within = replay_both make pages (take at calls) c d alike within
+
 pub isolation : {S : Type 0} (make : Make S) → Isolation make
 isolation make pages calls m n s t same agree at within =
-    replay_both make pages (take at calls) (made m s) (made n t) (record { processor = refl; panel = same; memory = agree }) within
+    isolation_from make pages calls (made m s) (made n t) (record { processor = refl; panel = same; memory = agree }) at within

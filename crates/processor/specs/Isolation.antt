@@ -24,12 +24,13 @@
 --   serve make call c (Log): one call on the card c: its answer, the card after it, and each step that was taken in it.
 --   made m s (Log): a card just made of the memory m and the panel's state s, its registers as after reset.
 --   replay make calls m s (Log): all the calls in turn on that card: the answers, the card after them, and each step.
+--   replay_from make calls c (Log): the same on any card.
 use Rattle.std.specs.Prelude.{◌≡◌, ℕ, Bool, true, List, [], ◌∷◌, take, Ok, Err, Result}
 use Rattle.memory.specs.Memory.{Agree, Mem}
 use Rattle.panel.specs.Panel.{Make}
 use Rattle.cycles.specs.Footprint.{Few, Kept, OpensWithin, on_pages}
 use Rattle.cycles.specs.Play.{Tally}
-use Rattle.processor.specs.Log.{Call, Call.looking, Call.resetting, Call.running, Call.stepping, Replayed, made, replay, serve}
+use Rattle.processor.specs.Log.{Call, Call.looking, Call.resetting, Call.running, Call.stepping, Replayed, made, replay, replay_from, serve}
 use Rattle.processor.specs.Run.{Stepped, is_look}
 use Rattle.processor.specs.Step.{Faulted, Model}
 
@@ -79,7 +80,14 @@ pub record Isolated {S : Type 0} (pages : ℕ → Bool) (m n : Mem) (one other :
   pub first_steps : Each ChangesFew one.steps
   pub second_steps : Each ChangesFew other.steps
 
--- The theorem, of a make of panel.
+-- The theorem from any two cards on that are alike on the set, of a make of panel.
+abbrev pub IsolationFrom : {S : Type 0} → Make S → Type 0
+IsolationFrom {S} make =
+    (pages : ℕ → Bool) (calls : List Call) (c d : Model S) → Alike pages c d →
+    (line : ℕ) → StaysWithin pages make (take line calls) c →
+    Isolated pages c.mem d.mem (replay_from make (take line calls) c) (replay_from make (take line calls) d)
+
+-- The theorem from their making on.
 abbrev pub Isolation : {S : Type 0} → Make S → Type 0
 Isolation {S} make =
     (pages : ℕ → Bool) (calls : List Call) (m n : Mem) (s t : S) → s ≡ t → Agree (on_pages pages) m n →

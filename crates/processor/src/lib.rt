@@ -4,7 +4,7 @@
 
 ghost use Rattle.processor.specs.Denials.{DenialLaws};
 ghost use Rattle.processor.specs.Example.{PresumptionMet};
-ghost use Rattle.processor.specs.Isolation.{Isolation};
+ghost use Rattle.processor.specs.Isolation.{Isolation, IsolationFrom};
 ghost use Rattle.processor.specs.Seclusion.{StepLaws};
 
 use panel::Panel;
@@ -18,6 +18,11 @@ pub fn step_laws<P: Panel>()
 // Isolation, over every list of calls from the making of two cards on.
 pub fn isolation<P: Panel>()
     ensures { Isolation P.Panel.make }
+{}
+
+// The same from any two cards on that are alike on the set, whatever was called on them before.
+pub fn isolation_from<P: Panel>()
+    ensures { IsolationFrom P.Panel.make }
 {}
 
 // What isolation presumes can be met, also by a log that changes the window.
