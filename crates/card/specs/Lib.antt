@@ -1,3 +1,4 @@
 pub mod Cards
+pub mod Witnesses
 pub mod Looks
 pub mod Stops

@@ -1,6 +1,7 @@
 // Making a card, step, run and reset.
-ghost use Rattle.std.specs.Prelude.{◌≡◌, ◌≤◌};
-ghost use Rattle.card.specs.Cards.{came, came_to, model, ran, run_called, seen};
+ghost use Rattle.std.specs.Prelude.{◌≡◌, ◌≤◌, if◌then◌else◌};
+ghost use Rattle.card.specs.Cards.{came, model, ran, run_called, seen};
+ghost use Rattle.card.specs.Witnesses.{after_steps, witnessed};
 ghost use Rattle.cycles.specs.Footprint.{Few};
 ghost use Rattle.execution.specs.Steps.{Secluded};
 ghost use Rattle.processor.specs.Isolation.{ChangesFew, Each};
@@ -10,6 +11,7 @@ ghost use Rattle.processor.specs.Step as stepping;
 
 use crate::card::Card;
 use crate::ran::{Ran, Stop};
+use crate::witness::{Nobody, Witness};
 use denial::{Denial, Fault};
 use execution::step::step;
 use machine::cost::Cost;
@@ -56,15 +58,23 @@ impl<M: Memory, P: Panel> Card<M, P> {
         ensures run { ran M.memory P.state result self.new ≡ run_called P.make budget (model M.memory P.state self.old) }
         ensures few { Each ChangesFew (running.run P.make budget (model M.memory P.state self.old)).steps }
     {
+        self.run_before(budget, &mut Nobody)
+    }
+
+    // The same before a witness.
+    pub fn run_before<W: Witness>(&mut self, budget: u32, witness: &mut W) -> Result<Ran, Denial>
+        ensures run { ran M.memory P.state result self.new ≡ run_called P.make budget (model M.memory P.state self.old) }
+        ensures noted { W.state witness.new ≡ (if running.is_budget budget then after_steps W.noted (W.state witness.old) (running.run P.make budget (model M.memory P.state self.old)).steps else W.state witness.old) }
+    {
         if !(1..=MOST).contains(&budget) {
             return Err(Denial::BudgetOutOfRange);
         }
-        Ok(self.run_on(budget))
+        Ok(self.run_on(budget, witness))
     }
 
-    fn run_on(&mut self, budget: u32) -> Ran
+    fn run_on<W: Witness>(&mut self, budget: u32, witness: &mut W) -> Ran
         requires { budget ≤ 1000000 }
-        ensures { came M.memory P.state result self.new ≡ came_to (running.run P.make budget (model M.memory P.state self.old)) }
+        ensures { record { came = came M.memory P.state result self.new; noted = W.state witness.new } ≡ witnessed W.noted (W.state witness.old) (running.run P.make budget (model M.memory P.state self.old)) }
     {
         let mut ran = Ran {
             stop: Stop::Spent,
@@ -74,8 +84,12 @@ impl<M: Memory, P: Panel> Card<M, P> {
         };
         // each step takes states, so the budget is spent after no more steps than it has states
         for _ in 0..budget {
+            let window = self.machine.window;
             match self.step() {
-                Ok(cost) => ran.count(cost),
+                Ok(cost) => {
+                    witness.note(window);
+                    ran.count(cost);
+                }
                 Err(fault) => {
                     return Ran {
                         stop: Stop::Fault(fault),

@@ -22,6 +22,13 @@ impl<M: Memory, P> Card<M, P> {
         (self.machine.cpu, self.machine.window)
     }
 
+    // The window that stands.
+    pub fn window(&self) -> Window
+        ensures { result ≡ self.now.machine.window }
+    {
+        self.machine.window
+    }
+
     // The byte at a physical address, or 5.
     pub fn read(&self, at: u32) -> Result<u8, Denial>
         ensures { answered result ≡ fetched (M.memory self.now.machine.memory) at }

@@ -8,3 +8,4 @@ pub mod look;
 pub mod look_window;
 mod looking;
 pub mod ran;
+pub mod witness;
