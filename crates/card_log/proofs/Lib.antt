@@ -1,2 +1,4 @@
 pub mod Differing
 pub mod Lines
+pub mod Steps
+pub mod Joins

@@ -1,11 +1,10 @@
--- The replay of a log, line by line, and its isolation. Assumes nothing.
+-- A log served line by line, and its isolation. Assumes nothing.
 use Rattle.std.specs.Prelude.{◌≡◌, ℕ, ◌<◌, Bool, ◌≢◌, List, [], ◌∷◌, ◌++◌, map, length, take, Some, None, Option, slice_index_or}
-use Rattle.memory.specs.Memory.{Agree, Mem}
+use Rattle.memory.specs.Memory.{Mem}
 use Rattle.panel.specs.Panel.{Make}
-use Rattle.cycles.specs.Footprint.{on_pages}
-use Rattle.processor.specs.Isolation.{Isolated, StaysWithin}
+use Rattle.processor.specs.Isolation.{Alike, Isolated, StaysWithin}
 use Rattle.processor.specs.Log as log
-use Rattle.processor.specs.Log.{made, replay}
+use Rattle.processor.specs.Log.{replay_from}
 use Rattle.processor.specs.Step.{Model}
 use Rattle.card.specs.declared.card.Card.{Card}
 use Rattle.card.specs.Cards.{model}
@@ -26,25 +25,21 @@ abbrev pub more : {S : Type 0} → Make S → log.Call → SoFar S → SoFar S
 more make call f =
     record { answers = f.answers ++ ((log.serve make call f.card).answer ∷ []); card = (log.serve make call f.card).card }
 
--- By the definition, from a card on; and from its making on.
+-- By the definition, from a card on.
 abbrev pub reached : {S : Type 0} → Make S → List log.Call → Model S → SoFar S
 reached make calls c = record { answers = (log.replay_from make calls c).answers; card = (log.replay_from make calls c).card }
 
-abbrev pub as_far_as : {S : Type 0} → Make S → List log.Call → Mem → S → SoFar S
-as_far_as make calls m s = reached make calls (made m s)
+-- Isolation of two cards that are given the same log. Whatever set of pages they are alike on: at each line they have come to the
+-- same, if up to there the first card's steps that are not denied, and its accepted looks, stay in the set.
+abbrev pub Together : {S : Type 0} → Make S → List log.Call → Model S → Model S → Type 0
+Together make calls c d =
+    (pages : ℕ → Bool) → Alike pages c d → (line : ℕ) → StaysWithin pages make (take line calls) c →
+    Isolated pages c.mem d.mem (replay_from make (take line calls) c) (replay_from make (take line calls) d)
 
--- Isolation of the log of one card: with every other memory that agrees on a set of pages the definition's replay of each prefix
--- of the log comes to the same, if the card's steps that are not denied and its accepted looks stay in the set up to there.
-abbrev pub Alone : {S : Type 0} → Make S → List log.Call → Mem → S → Type 0
-Alone make calls m s =
-    (pages : ℕ → Bool) (n : Mem) → Agree (on_pages pages) m n → (line : ℕ) → StaysWithin pages make (take line calls) (made m s) →
-    Isolated pages m n (replay make (take line calls) m s) (replay make (take line calls) n s)
-
--- Isolation of two cards that are given the same log, over memories that may be of different makes.
-abbrev pub Together : {S : Type 0} → Make S → List log.Call → Mem → Mem → S → S → Type 0
-Together make calls m n s t =
-    (pages : ℕ → Bool) → s ≡ t → Agree (on_pages pages) m n → (line : ℕ) → StaysWithin pages make (take line calls) (made m s) →
-    Isolated pages m n (replay make (take line calls) m s) (replay make (take line calls) n t)
+-- A set of pages is enough: if the cards are alike on it, they come to the same.
+abbrev pub Enough : {S : Type 0} → (ℕ → Bool) → Make S → List log.Call → Model S → Model S → Type 0
+Enough pages make calls c d =
+    Alike pages c d → Isolated pages c.mem d.mem (replay_from make calls c) (replay_from make calls d)
 
 -- The first line at which two lists of answers differ, or none.
 abbrev pub FirstDifference : List log.Answer → List log.Answer → Option ℕ → Type 0

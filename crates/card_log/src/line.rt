@@ -1,18 +1,24 @@
 // One line of a log, ready to be served on a card.
 ghost use Rattle.answers.specs.Answers.{answer_of, call_of};
+ghost use Rattle.answers.specs.declared.answer.Answer.TheVariants.{Step};
 ghost use Rattle.card.specs.Cards.{model};
-ghost use Rattle.card_log.specs.Rooms.{room_for, seen_in, sized};
+ghost use Rattle.card_log.specs.Rooms.{room_for, seen_in, shown_in, sized};
 ghost use Rattle.denial.specs.Denials.{answered_by};
+ghost use Rattle.opened.specs.Opened.{by_call};
+ghost use Rattle.opened.specs.Pages.{joined, pages_of};
 ghost use Rattle.processor.specs.Log as log;
 ghost use Rattle.processor.specs.Run as running;
 ghost use Rattle.std.specs.Prelude.{◌≡◌, true, IfOk, IfSome, vec_items, vec_len};
 
+use crate::opening::Opening;
 use answers::answer::Answer;
 use answers::call::Call;
 use card::card::Card;
 use card::look::LONGEST;
 use card::look_window::LookWindow;
-use denial::Denial;
+use card::witness::Witness;
+use denial::{Denial, Fault};
+use machine::cost::Cost;
 use memory::Memory;
 use panel::Panel;
 use registers::window::Window;
@@ -40,22 +46,39 @@ impl Line {
         Ok(Line { call, room })
     }
 
-    // The answer to the call, with the card as the call leaves it.
-    pub(crate) fn serve<M: Memory, P: Panel>(self, card: &mut Card<M, P>) -> Answer
+    // The answer to the call, with the card as the call leaves it, and the pages that it opens put to the others.
+    pub(crate) fn serve<M: Memory, P: Panel>(
+        self,
+        card: &mut Card<M, P>,
+        opening: &mut Opening,
+    ) -> Answer
         ensures answer { answer_of result ≡ (log.serve P.make (call_of self.call) (model M.memory P.state card.old)).answer }
         ensures card { model M.memory P.state card.new ≡ (log.serve P.make (call_of self.call) (model M.memory P.state card.old)).card }
+        ensures opened { pages_of opening.new.pages ≡ joined (pages_of opening.old.pages) (by_call P.make (call_of self.call) (model M.memory P.state card.old)) }
     {
         let Line { call, room } = self;
         match call {
-            Call::Step => Answer::Step(card.step()),
-            Call::Run(budget) => Answer::Run(card.run(budget)),
+            Call::Step => Answer::Step(step(card, opening)),
+            Call::Run(budget) => Answer::Run(card.run_before(budget, opening)),
             Call::Reset => {
                 card.reset();
                 Answer::Reset
             }
-            Call::Look(window, at, _) => Answer::Look(look(card, window, at, room)),
+            Call::Look(window, at, _) => Answer::Look(look(card, window, at, room, opening)),
         }
     }
+}
+
+// A step opens the pages that are mapped as it begins, unless it is denied.
+fn step<M: Memory, P: Panel>(card: &mut Card<M, P>, opening: &mut Opening) -> Result<Cost, Fault>
+    ensures answer { answer_of (Step result) ≡ (log.serve P.make log.stepping (model M.memory P.state card.old)).answer }
+    ensures card { model M.memory P.state card.new ≡ (log.serve P.make log.stepping (model M.memory P.state card.old)).card }
+    ensures opened { pages_of opening.new.pages ≡ joined (pages_of opening.old.pages) (by_call P.make log.stepping (model M.memory P.state card.old)) }
+{
+    let window = card.window();
+    let cost = card.step()?;
+    opening.note(window);
+    Ok(cost)
 }
 
 // Whether a card will accept a look. No card is asked, since memory for the answer comes first.
@@ -71,12 +94,15 @@ fn look<M: Memory, P: Panel>(
     window: Window,
     at: u16,
     room: Option<Vec<u8>>,
+    opening: &mut Opening,
 ) -> Result<Vec<u8>, Denial>
     requires { IfSome room (λ v. running.is_look window (vec_len v) ≡ true) }
     ensures answer { answered_by vec_items result ≡ seen_in (λ v. running.looked (M.memory card.old.machine.memory).byte window at (vec_len v)) room }
     ensures card { card.new ≡ card.old }
+    ensures opened { pages_of opening.new.pages ≡ joined (pages_of opening.old.pages) (shown_in room window) }
 {
     let mut bytes = room.ok_or(Denial::LookOutOfRange)?;
     card.look(window, at, bytes.as_mut_slice())?;
+    opening.note(window);
     Ok(bytes)
 }

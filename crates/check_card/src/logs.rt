@@ -102,11 +102,11 @@ fn every_kind_of_call(rt: HostRuntime) -> Result<(), Fail> {
     let size = BoardLength::of_bank(&bytes)?;
     let bank = Bank::new(&mut bytes, size);
     let replayed = replay(heap, bank, with_room_for(heap, 1)?, &LINES);
-    assert!(rt; replayed.complete);
-    assert_eq!(rt; replayed.served, 14);
+    assert!(rt; replayed.log.complete);
+    assert_eq!(rt; replayed.log.served, 14);
     pc_is(&rt, &replayed.card, 0);
     assert_eq!(rt; replayed.card.panel().used(), 1);
-    answered(&rt, &replayed.answers, &expected_answers(heap)?);
+    answered(&rt, &replayed.log.answers, &expected_answers(heap)?);
     Ok(())
 }
 
@@ -125,11 +125,11 @@ fn a_long_log_is_served_to_its_end(rt: HostRuntime) -> Result<(), Fail> {
     let bank = Bank::new(&mut bytes, size);
     let lines = vec![in heap; Call::Step; 3000]?;
     let replayed = replay(heap, bank, quiet(heap), &lines);
-    assert!(rt; replayed.complete);
-    assert_eq!(rt; replayed.served, 3000);
-    assert_eq!(rt; replayed.answers.len(), 3000);
+    assert!(rt; replayed.log.complete);
+    assert_eq!(rt; replayed.log.served, 3000);
+    assert_eq!(rt; replayed.log.answers.len(), 3000);
     pc_is(&rt, &replayed.card, 3000);
-    all_nops(&rt, &replayed.answers);
+    all_nops(&rt, &replayed.log.answers);
     Ok(())
 }
 
@@ -139,9 +139,9 @@ fn an_empty_log(rt: HostRuntime) -> Result<(), Fail> {
     let mut bytes = [0];
     let size = BoardLength::of_bank(&bytes)?;
     let replayed = replay(heap, Bank::new(&mut bytes, size), quiet(heap), &[]);
-    assert!(rt; replayed.complete);
-    assert_eq!(rt; replayed.served, 0);
-    assert_eq!(rt; replayed.answers.len(), 0);
+    assert!(rt; replayed.log.complete);
+    assert_eq!(rt; replayed.log.served, 0);
+    assert_eq!(rt; replayed.log.answers.len(), 0);
     pc_is(&rt, &replayed.card, 0);
     Ok(())
 }

@@ -2,7 +2,7 @@
 use crate::cards::{pc_is, quiet};
 use answers::call::Call;
 use card_log::pair::replay_pair;
-use card_log::replayed::ReplayedPair;
+use card_log::served::ReplayedPair;
 use memory::Memory;
 use memory::bank::Bank;
 use memory::length::BoardLength;
@@ -28,10 +28,10 @@ const LINES: [Call; 7] = [
 ];
 
 fn whole<M: Memory, N: Memory>(rt: &impl Abort, pair: &ReplayedPair<M, N, Script>) {
-    assert!(rt; pair.complete);
-    assert_eq!(rt; pair.served, 7);
-    assert_eq!(rt; pair.answers.len(), 7);
-    assert_eq!(rt; pair.others.len(), 7);
+    assert!(rt; pair.log.complete);
+    assert_eq!(rt; pair.log.served, 7);
+    assert_eq!(rt; pair.log.answers.len(), 7);
+    assert_eq!(rt; pair.log.others.len(), 7);
     pc_is(rt, &pair.first, 1);
     pc_is(rt, &pair.second, 1);
 }
@@ -48,7 +48,7 @@ fn pages_that_are_never_opened(rt: HostRuntime) -> Result<(), Fail> {
     let board = RomRam::new(&rom, &mut ram, both);
     let pair = replay_pair(heap, bank, board, quiet(heap), quiet(heap), &LINES);
     whole(&rt, &pair);
-    assert_eq!(rt; pair.difference, None);
+    assert_eq!(rt; pair.log.difference, None);
     // the memories differ all the same
     assert_eq!(rt; pair.first.read(65_536), Ok(0));
     assert_eq!(rt; pair.second.read(65_536), Ok(9));
@@ -68,7 +68,7 @@ fn patched_at(rt: &impl Abort, heap: Global, address: u32, line: usize) -> Resul
     };
     let pair = replay_pair(heap, bank, patched, quiet(heap), quiet(heap), &LINES);
     whole(rt, &pair);
-    assert_eq!(rt; pair.difference, Some(line));
+    assert_eq!(rt; pair.log.difference, Some(line));
     Ok(())
 }
 

@@ -32,11 +32,11 @@ fn run_listing<M: Memory + Drop>(
     ensures { Lists result (run_text (run_for states (made (M.Memory.memory memory) (chain_state panel)))) }
 {
     let replayed = replay(heap, memory, panel, &[Call::Run(states)]);
-    if !replayed.complete {
+    if !replayed.log.complete {
         return Err(Unplotted::NoMemory);
     }
     // the log is one run, and its budget is accepted
-    let ran = run_answer(replayed.answers.as_slice()).unwrap();
+    let ran = run_answer(replayed.log.answers.as_slice()).unwrap();
     let (cpu, window) = replayed.card.registers();
     listing(heap, ran, cpu, window, replayed.card.panel())
 }

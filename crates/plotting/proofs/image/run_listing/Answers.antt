@@ -13,9 +13,9 @@ pub returns : goal.returns
 returns g c =
     let memory = g.M.Memory.memory in
     let card = c.replay-replayed.result.card in
-    let answers = vec_items c.replay-replayed.result.answers in
-    let served = c.replay-replayed.result.served in
-    let complete : c.replay-replayed.result.complete ≡ true = search rules in
+    let answers = vec_items c.replay-replayed.result.log.answers in
+    let served = c.replay-replayed.result.log.served in
+    let complete : c.replay-replayed.result.log.complete ≡ true = search rules in
     let calls : ℕ → List log.Call = λ k. map call_of (take k (call.Run c.args.states ∷ [])) in
     let one : calls served ≡ log.running c.args.states ∷ [] = ap calls (c.replay-replayed.ensures.whole complete) in
     let run_answer : map answer_of c.as_slice.result.now ≡ log.ran (Ok (ran_of c.unwrap-ran.result)) ∷ [] = search rules in

@@ -1,11 +1,17 @@
-use Rattle.std.proofs.Common.{ap₂, arith}
+use Rattle.std.proofs.Common.{ap, ◌∙◌, arith}
+use Rattle.opened.specs.Pages.{pages_of}
 use Rattle.card_log.specs.Replays.{so_far}
-use Rattle.card_log.proofs.Lines.{served}
+use Rattle.card_log.proofs.Lines.{opened_then, served}
 use Rattle.card_log.proofs.session.Session.serve.Goals as goal
 
 pub loop-call-preserved : goal.loop-call-preserved
-loop-call-preserved g c = record {
-  so_far =
-      served g.P.Panel.make c.args.log.now c.loop-call.call-index _ c.in_ok-line.line.call _ _ _ _ c.loop-call-test.true c.loop-call.invariant.so_far (ap₂ (so_far g.M.Memory.memory g.P.Panel.state) c.in_ok-line.ensures.card c.in_ok-line.ensures.answers) c.in_ok-line.ensures.line c.keep.ensures.so_far;
-  len = omega (arith, c.keep.ensures.len, c.in_ok-line.ensures.len);
-}
+loop-call-preserved g c =
+    let before = ap (so_far g.M.Memory.memory g.P.Panel.state c.loop-call.card) c.in_ok-line.ensures.answers ∙ c.loop-call.invariant.so_far in
+    let had = ap (λ o. pages_of o.pages) c.in_ok-line.ensures.opening ∙ c.loop-call.invariant.opened in
+    record {
+      so_far =
+          served g.P.Panel.make c.args.log.now c.loop-call.call-index _ c.in_ok-line.line.call _ _ _ c.loop-call-test.true before c.in_ok-line.ensures.line c.keep.ensures.so_far;
+      opened =
+          opened_then g.P.Panel.make c.args.log.now c.loop-call.call-index _ c.in_ok-line.line.call _ _ _ _ c.loop-call-test.true before had c.in_ok-line.ensures.line c.keep.ensures.opened;
+      len = omega (arith, c.keep.ensures.len, c.in_ok-line.ensures.len);
+    }

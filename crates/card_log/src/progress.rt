@@ -1,0 +1,44 @@
+// How far a log has come that is served in pieces.
+ghost use Rattle.card_log.specs.Joining.{first_of};
+ghost use Rattle.opened.specs.Pages.{joined, none, pages_of};
+ghost use Rattle.std.specs.Prelude.{◌≡◌, ◌+◌, ◌-◌, ◌<◌, ◌^◌, None, IfSome, min};
+
+use opened::pages::Pages;
+
+// Of all pieces, as if they were one log: the lines served, the pages opened, and the first line at which the answers of two cards
+// differ. A count of 2^64 lines stays there.
+#[derive(Drop)]
+pub struct Progress {
+    pub lines: u64,
+    pub opened: Pages,
+    pub difference: Option<u64>,
+}
+
+impl Progress {
+    // Nothing was served yet.
+    pub fn new() -> Progress
+        ensures lines { result.lines ≡ 0 }
+        ensures opened { pages_of result.opened ≡ none }
+        ensures difference { result.difference ≡ None }
+    {
+        Progress {
+            lines: 0,
+            opened: Pages::none(),
+            difference: None,
+        }
+    }
+
+    // One more piece was served.
+    pub fn add(&mut self, served: usize, opened: &Pages, difference: Option<usize>)
+        ensures lines { self.new.lines ≡ min (self.old.lines + served) (2 ^ 64 - 1) }
+        ensures opened { pages_of self.new.opened ≡ joined (pages_of self.old.opened) (pages_of opened.now) }
+        ensures difference { IfSome difference (λ k. self.old.lines + k < 2 ^ 64) → self.new.difference ≡ first_of self.old.difference self.old.lines difference }
+    {
+        self.difference = match (self.difference, difference) {
+            (None, Some(line)) => Some(self.lines.saturating_add(line as u64)),
+            (earlier, _) => earlier,
+        };
+        self.lines = self.lines.saturating_add(served as u64);
+        self.opened.join(opened);
+    }
+}
