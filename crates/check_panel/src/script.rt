@@ -39,6 +39,30 @@ fn answers_from_its_list(rt: HostRuntime) -> Result<(), Fail> {
 }
 
 #[test]
+fn counts_what_was_read(rt: HostRuntime) -> Result<(), Fail> {
+    let mut panel = Script::new(vec![in rt.alloc(); 7, 8, 9]?, 1, 0xC7);
+    for place in [0, 1, 2, 3, 3] {
+        assert_eq!(rt; (panel.place(), panel.length()), (place, 3));
+        panel.read(0x80);
+    }
+    Ok(())
+}
+
+#[test]
+fn shows_what_it_was_told(rt: HostRuntime) {
+    let mut panel = silent(rt.alloc(), 10);
+    panel.tell(4_294_967_290);
+    assert_eq!(rt; panel.told(), 4_294_967_290);
+    panel.tell(6);
+    assert_eq!(rt; panel.told(), 4_294_967_295);
+    assert!(rt; !panel.acknowledged());
+    panel.acknowledge(Line::Nmi);
+    assert!(rt; !panel.acknowledged());
+    panel.acknowledge(Line::Int0);
+    assert!(rt; panel.acknowledged());
+}
+
+#[test]
 fn keeps_the_last_write(rt: HostRuntime) -> Result<(), Fail> {
     let mut panel = silent(rt.alloc(), 1);
     assert_eq!(rt; panel.last_write(), None);

@@ -1,5 +1,5 @@
--- The script panel: what is left of its list, its last write, and when it asks for INT0. Assumes nothing.
-use Rattle.std.specs.Prelude.{ℕ, ◌+◌, min, Bool, true, false, not, ◌&&◌, List, [], ◌∷◌, drop, Some, None, vec_items, Option, nat_le}
+-- The script panel: how far its list has been read, its last write, and when it asks for INT0. Assumes nothing.
+use Rattle.std.specs.Prelude.{ℕ, ◌+◌, min, Bool, true, false, cond, not, ◌&&◌, List, length, Some, None, vec_items, Option, nat_le, nat_lt, slice_index_or}
 use Rattle.panel.specs.declared.line.Line.{Line}
 use Rattle.panel.specs.declared.line.Line.TheVariants.{Nmi, Int0, Int1, Int2}
 use Rattle.panel.specs.declared.sent.Sent.{Sent}
@@ -7,8 +7,10 @@ use Rattle.panel.specs.declared.script.Script.{Script}
 use Rattle.panel.specs.Panel.{Make}
 
 pub record State : Type 0 where
-  -- the bytes that reads are still to answer
-  pub rest : List ℕ
+  -- the list that reads answer from
+  pub bytes : List ℕ
+  -- how many of its bytes have been read
+  pub place : ℕ
   pub last_write : Option Sent
   -- how many states it was told in all, at most 4,294,967,295
   pub told : ℕ
@@ -18,13 +20,12 @@ pub record State : Type 0 where
   pub int0_byte : ℕ
 
 -- A read answers the next byte of the list, then FFH.
-abbrev pub next_byte : List ℕ → ℕ
-next_byte [] = 255
-next_byte (b ∷ bs) = b
+abbrev pub next_byte : State → ℕ
+next_byte s = slice_index_or s.bytes s.place 255
 
-abbrev pub behind : List ℕ → List ℕ
-behind [] = []
-behind (b ∷ bs) = bs
+-- It goes on to the byte behind, if there was one to answer.
+abbrev pub place_behind : State → ℕ
+place_behind s = cond (nat_lt s.place (length s.bytes)) (s.place + 1) s.place
 
 -- INT0 is asked for once enough states are told, until it is acknowledged, and then never again; no other line ever is.
 abbrev pub script_asks : State → Line → Bool
@@ -33,17 +34,17 @@ script_asks s Int0 = nat_le s.threshold s.told && not s.acknowledged
 script_asks s Int1 = false
 script_asks s Int2 = false
 
-abbrev pub with_rest : List ℕ → State → State
-with_rest bs s = record { rest = bs; last_write = s.last_write; told = s.told; threshold = s.threshold; acknowledged = s.acknowledged; int0_byte = s.int0_byte }
+abbrev pub with_place : ℕ → State → State
+with_place n s = record { bytes = s.bytes; place = n; last_write = s.last_write; told = s.told; threshold = s.threshold; acknowledged = s.acknowledged; int0_byte = s.int0_byte }
 
 abbrev pub with_write : Sent → State → State
-with_write w s = record { rest = s.rest; last_write = Some w; told = s.told; threshold = s.threshold; acknowledged = s.acknowledged; int0_byte = s.int0_byte }
+with_write w s = record { bytes = s.bytes; place = s.place; last_write = Some w; told = s.told; threshold = s.threshold; acknowledged = s.acknowledged; int0_byte = s.int0_byte }
 
 abbrev pub with_told : ℕ → State → State
-with_told n s = record { rest = s.rest; last_write = s.last_write; told = n; threshold = s.threshold; acknowledged = s.acknowledged; int0_byte = s.int0_byte }
+with_told n s = record { bytes = s.bytes; place = s.place; last_write = s.last_write; told = n; threshold = s.threshold; acknowledged = s.acknowledged; int0_byte = s.int0_byte }
 
 abbrev pub with_acknowledged : State → State
-with_acknowledged s = record { rest = s.rest; last_write = s.last_write; told = s.told; threshold = s.threshold; acknowledged = true; int0_byte = s.int0_byte }
+with_acknowledged s = record { bytes = s.bytes; place = s.place; last_write = s.last_write; told = s.told; threshold = s.threshold; acknowledged = true; int0_byte = s.int0_byte }
 
 abbrev pub script_acknowledged : State → Line → State
 script_acknowledged s Nmi = s
@@ -57,21 +58,22 @@ script_make = record {
   full = λ _. false;
   asks = script_asks;
   int0_byte = λ s. s.int0_byte;
-  answer = λ s _. next_byte s.rest;
-  read = λ s _. with_rest (behind s.rest) s;
+  answer = λ s _. next_byte s;
+  read = λ s _. with_place (place_behind s) s;
   written = λ s port byte. with_write (record { port = port; byte = byte }) s;
   acknowledged = script_acknowledged;
   told = λ s n. with_told (min (s.told + n) 4294967295) s;
 }
 
--- A new one: nothing written, told or acknowledged.
+-- A new one: nothing read, written, told or acknowledged.
 abbrev pub new_script : List ℕ → ℕ → ℕ → State
-new_script bytes threshold int0 = record { rest = bytes; last_write = None; told = 0; threshold = threshold; acknowledged = false; int0_byte = int0 }
+new_script bytes threshold int0 = record { bytes = bytes; place = 0; last_write = None; told = 0; threshold = threshold; acknowledged = false; int0_byte = int0 }
 
 -- The state of a value.
 abbrev pub script_state : Script → State
 script_state p = record {
-  rest = drop p.place (vec_items p.bytes);
+  bytes = vec_items p.bytes;
+  place = p.place;
   last_write = p.last_write;
   told = p.told;
   threshold = p.threshold;

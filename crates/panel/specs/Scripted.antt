@@ -1,5 +1,5 @@
 -- What a script panel answers after any list of acts since it was made. Assumes nothing.
-use Rattle.std.specs.Prelude.{◌≡◌, ℕ, suc, ◌+◌, min, Bool, true, false, not, ◌&&◌, ◌||◌, List, [], ◌∷◌, Some, None, Option, nat_le, slice_index_or}
+use Rattle.std.specs.Prelude.{◌≡◌, ℕ, suc, ◌+◌, min, Bool, true, false, not, ◌&&◌, ◌||◌, List, [], ◌∷◌, length, Some, None, Option, nat_le, slice_index_or}
 use Rattle.panel.specs.declared.line.Line.{Line}
 use Rattle.panel.specs.declared.line.Line.TheVariants.{Nmi, Int0, Int1, Int2}
 use Rattle.panel.specs.declared.sent.Sent.{Sent}
@@ -52,6 +52,10 @@ script_after bytes threshold int0 acts = acted_all script_make (new_script bytes
 pub record ScriptLaws : Type 0 where
   -- the next read answers the byte at the place that the number of reads says, or FFH behind the last
   pub next_answer : (bytes : List ℕ) (threshold int0 : ℕ) (acts : List Act) (port : ℕ) → script_make.answer (script_after bytes threshold int0 acts) port ≡ slice_index_or bytes (reads_of acts) 255
+  -- as many of the bytes have been read as there were reads, or all
+  pub read_so_far : (bytes : List ℕ) (threshold int0 : ℕ) (acts : List Act) → (script_after bytes threshold int0 acts).place ≡ min (reads_of acts) (length bytes)
+  -- the list stays
+  pub bytes_same : (bytes : List ℕ) (threshold int0 : ℕ) (acts : List Act) → (script_after bytes threshold int0 acts).bytes ≡ bytes
   -- the last write is the last
   pub last_written : (bytes : List ℕ) (threshold int0 : ℕ) (acts : List Act) → (script_after bytes threshold int0 acts).last_write ≡ last_of None acts
   -- INT0 is asked for exactly when the states told in all, at most 4,294,967,295, reach the threshold and it was never
