@@ -17,8 +17,15 @@ abbrev pub crc_after : ℕ → List ℕ → ℕ
 crc_after c [] = c
 crc_after c (b ∷ bs) = crc_after (crc_byte c b) bs
 
+-- Before the first byte, and after the last.
+abbrev pub crc_begun : ℕ
+crc_begun = 0xFFFFFFFF
+
+abbrev pub crc_ended : ℕ → ℕ
+crc_ended c = bit_xor c 0xFFFFFFFF
+
 abbrev pub crc_32 : List ℕ → ℕ
-crc_32 bytes = bit_xor (crc_after 0xFFFFFFFF bytes) 0xFFFFFFFF
+crc_32 bytes = crc_ended (crc_after crc_begun bytes)
 
 -- The published check value.
 abbrev pub CheckValue : Type 0

@@ -5,7 +5,7 @@ use Rattle.panel.specs.declared.track.Track.{Track}
 use Rattle.plot.specs.Lines.{line, record_line}
 use Rattle.panel.specs.declared.track.Track.TheVariants.{Pen, X, Y}
 use Rattle.panel.specs.Chains.{State}
-use Rattle.plot.specs.Listing.{lines_of, track_text}
+use Rattle.plot.specs.Listing.{chains_text, lines_of, track_text}
 
 -- the line of one more record
 pub record_more : (track : Track) (text longer want : List ℕ) (x : ℕ × Record) (ahead behind : List (ℕ × Record)) → text ++ lines_of track ahead ≡ want → ahead ≡ x ∷ behind → longer ≡ text ++ line (record_line track x.0 x.1) → longer ++ lines_of track behind ≡ want
@@ -41,10 +41,5 @@ track_more s (suc (suc zero)) start text longer d some before now =
     ∙ ap (λ l. start ++ l) (append_assoc (track_text s Pen) (track_text s X) (track_text s Y))
 track_more s (suc (suc (suc n))) start text longer d some before now = absurd (omega arith)
 
--- two lines, then the chains of all three, from nothing
-pub tracks_done : (s : State) (n : ℕ) (a b empty start text : List ℕ) → n ≡ 3 → empty ≡ [] → start ≡ empty ++ (a ++ ((10 ∷ []) ++ (b ++ (10 ∷ [])))) → text ≡ start ++ first_tracks s n → text ≡ line a ++ (line b ++ first_tracks s 3)
-tracks_done s n a b empty start text all nothing lines made =
-    made
-    ∙ ap (λ k. start ++ first_tracks s k) all
-    ∙ ap (λ l. l ++ first_tracks s 3) (lines ∙ ap (λ l. l ++ (a ++ ((10 ∷ []) ++ (b ++ (10 ∷ []))))) nothing)
-    ∙ simp append_assoc
+pub all_tracks : (s : State) (n : ℕ) (start text : List ℕ) → n ≡ 3 → text ≡ start ++ first_tracks s n → text ≡ start ++ chains_text s
+all_tracks s n start text all made = made ∙ ap (λ k. start ++ first_tracks s k) all

@@ -22,10 +22,14 @@ lines_of track (x ∷ xs) = line (record_line track x.0 x.1) ++ lines_of track x
 abbrev pub track_text : State → Track → List ℕ
 track_text s track = lines_of track (listed (s.chain (track_number track)))
 
--- The two lines of the run, then the chains of pen, x and y.
+-- The chains of pen, x and y.
+abbrev pub chains_text : State → List ℕ
+chains_text s = track_text s Pen ++ (track_text s X ++ track_text s Y)
+
+-- The two lines of the run, then the chains.
 abbrev pub text_of_plot : Ran → Registers → Window → State → List ℕ
 text_of_plot ran cpu w s =
-    line (run_line ran) ++ (line (register_line cpu w) ++ (track_text s Pen ++ (track_text s X ++ track_text s Y)))
+    line (run_line ran) ++ (line (register_line cpu w) ++ chains_text s)
 
 -- What is printed where there is no listing.
 abbrev pub unplotted_line : Unplotted → List ℕ

@@ -1,34 +1,17 @@
 // The listing: how a run ended, the registers it left, and every record of the three chains.
 ghost use Rattle.card.specs.Cards.{ran_of};
 ghost use Rattle.panel.specs.Shown.{chain_state};
-ghost use Rattle.plot.specs.Listing.{Lists, text_of_plot, track_text};
-ghost use Rattle.std.specs.Prelude.{◌≡◌, ◌++◌, string_bytes, OnOk};
+ghost use Rattle.plot.specs.Listing.{Lists, text_of_plot};
 
-use crate::record_line::RecordLine;
+use crate::chains::chains;
 use crate::register_line::RegisterLine;
 use crate::run_line::RunLine;
 use crate::unplotted::Unplotted;
 use card::ran::Ran;
 use panel::chain::Chain;
-use panel::track::Track;
 use registers::registers::Registers;
 use registers::window::Window;
-use std::alloc::{AllocError, Global};
-
-// A line for each record of a chain, the first one first.
-fn records(text: &mut String, panel: &Chain, track: Track) -> Result<(), AllocError>
-    ensures { OnOk result (string_bytes text.new ≡ string_bytes text.old ++ track_text (chain_state panel.now) track) }
-{
-    for (number, record) in panel.walk(track) {
-        let line = RecordLine {
-            track,
-            number,
-            record,
-        };
-        writeln!(text, "{line}")?;
-    }
-    Ok(())
-}
+use std::alloc::Global;
 
 // The listing of a run, of the registers and the window that it left, and of the panel. The four are parameters: a struct of them
 // would be made at each call and taken apart here.
@@ -45,8 +28,6 @@ pub fn listing(
     let registers = RegisterLine { cpu, window };
     let mut text = String::new(heap);
     writeln!(text, "{run}\n{registers}")?;
-    for track in [Track::Pen, Track::X, Track::Y] {
-        records(&mut text, panel, track)?;
-    }
+    chains(&mut text, panel)?;
     Ok(text)
 }

@@ -1,7 +1,7 @@
 use Rattle.std.proofs.Common.{◌≡◌, ◌++◌, string_bytes}
 use Rattle.panel.specs.Walking.{left_to_walk}
 use Rattle.plot.specs.Listing.{lines_of}
-use Rattle.plot.proofs.listing.records.Given as goal
+use Rattle.plot.proofs.chains.records.Given as goal
 
 abbrev pub invariant-loop-number : goal.invariant-loop-number
 invariant-loop-number l =

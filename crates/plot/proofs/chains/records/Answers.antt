@@ -3,7 +3,7 @@ use Rattle.panel.specs.declared.record.Record.{Record}
 use Rattle.panel.specs.Walking.{left_to_walk}
 use Rattle.plot.specs.Listing.{lines_of}
 use Rattle.plot.proofs.Appending.{record_more, records_done}
-use Rattle.plot.proofs.listing.records.Goals as goal
+use Rattle.plot.proofs.chains.records.Goals as goal
 
 pub loop-number-preserved : goal.loop-number-preserved
 loop-number-preserved c =
