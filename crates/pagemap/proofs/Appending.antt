@@ -1,10 +1,10 @@
 -- A text that grows line by line. Assumes nothing.
-use Rattle.std.proofs.Common.{◌≡◌, ℕ, ◌+◌, List, [], ◌++◌, sym, ap, ◌∙◌, append_assoc, append-nil, add-one}
+use Rattle.std.proofs.Common.{◌≡◌, ℕ, ◌+◌, Bool, List, [], ◌++◌, sym, ap, ◌∙◌, append_assoc, append-nil, add-one}
 use Rattle.memory.specs.Memory.{Mem}
 use Rattle.registers.specs.declared.window.Window.{Window}
 use Rattle.pagemap.specs.declared.report.PageReport.{PageReport}
-use Rattle.pagemap.specs.Lines.{line, page_opened, page_line, page_report}
-use Rattle.pagemap.specs.Listing.{opened_text, pages_text}
+use Rattle.pagemap.specs.Lines.{if_held, line, page_line, page_report}
+use Rattle.pagemap.specs.Listing.{held_text, pages_text}
 
 -- one more piece
 after : (s done piece t u : List ℕ) → t ≡ s ++ done → u ≡ t ++ piece → u ≡ s ++ (done ++ piece)
@@ -20,13 +20,15 @@ page_more m bytes w n r s t u before is now =
     after s (pages_text m bytes w n) (line (page_line (page_report m bytes w n))) t u before (now ∙ ap (λ p. t ++ line (page_line p)) is)
     ∙ ap (λ k. s ++ pages_text m bytes w k) (sym (add-one n))
 
-pub none_opened : (w : Window) (s : List ℕ) → s ≡ s ++ opened_text w 0
-unfolding opened_text
-none_opened w s = sym (append-nil s)
+pub none_held : (holds : ℕ → Bool) (s : List ℕ) → s ≡ s ++ held_text holds 0
+unfolding held_text
+none_held holds s = sym (append-nil s)
 
-pub opened_more : (w : Window) (n : ℕ) (s t u : List ℕ) → t ≡ s ++ opened_text w n → u ≡ t ++ page_opened w n → u ≡ s ++ opened_text w (n + 1)
-unfolding opened_text
-opened_more w n s t u before now = after s (opened_text w n) (page_opened w n) t u before now ∙ ap (λ k. s ++ opened_text w k) (sym (add-one n))
+pub held_more : (holds : ℕ → Bool) (n : ℕ) (held : Bool) (s t u : List ℕ) → t ≡ s ++ held_text holds n → held ≡ holds n → u ≡ t ++ if_held held n → u ≡ s ++ held_text holds (n + 1)
+unfolding held_text
+held_more holds n held s t u before is now =
+    after s (held_text holds n) (if_held (holds n) n) t u before (now ∙ ap (λ b. t ++ if_held b n) is)
+    ∙ ap (λ k. s ++ held_text holds k) (sym (add-one n))
 
 -- five pieces, one after another, from nothing
 pub five : (a b c d e t₀ t₁ t₂ t₃ t₄ t₅ : List ℕ) → t₀ ≡ [] → t₁ ≡ t₀ ++ a → t₂ ≡ t₁ ++ b → t₃ ≡ t₂ ++ c → t₄ ≡ t₃ ++ d → t₅ ≡ t₄ ++ e → t₅ ≡ a ++ (b ++ (c ++ (d ++ e)))

@@ -1,12 +1,12 @@
 -- The lines of the listing. Assumes nothing.
-use Rattle.std.specs.Prelude.{ℕ, ◌*◌, cond, List, [], ◌∷◌, ◌++◌, codes, decimal}
+use Rattle.std.specs.Prelude.{ℕ, ◌*◌, Bool, cond, List, [], ◌∷◌, ◌++◌, codes, decimal}
 use Rattle.text.specs.Columns.{right_4}
 use Rattle.text.specs.Hexadecimal.{hex_address, hex_byte, hex_digit, hex_long}
 use Rattle.memory.specs.Memory.{Mem}
 use Rattle.registers.specs.declared.window.Area.{Area}
 use Rattle.registers.specs.declared.window.Area.TheVariants.{Common0, Bank, Common1}
 use Rattle.registers.specs.declared.window.Window.{Window}
-use Rattle.registers.specs.Window.{area_of, opens_on, shown_page}
+use Rattle.registers.specs.Window.{area_of, shown_page}
 use Rattle.pagemap.specs.declared.report.PageReport.{PageReport}
 use Rattle.pagemap.specs.Crc.{crc_32}
 use Rattle.pagemap.specs.Pages.{bytes_through, present}
@@ -41,6 +41,6 @@ unfoldable pub page_line : PageReport → List ℕ
 page_line r =
     codes "   " ++ ((hex_digit r.page ∷ []) ++ (codes "  " ++ (area_name r.area ++ (codes "     " ++ (hex_byte r.shown ++ (codes "    " ++ (hex_address (r.shown * 4096) ++ (codes "   " ++ (right_4 r.present ++ (codes "  " ++ hex_long r.crc))))))))))
 
--- A physical page behind a blank, if the window opens on it.
-abbrev pub page_opened : Window → ℕ → List ℕ
-page_opened w q = cond (opens_on w q) (32 ∷ hex_byte q) []
+-- A physical page behind a blank, if a set of pages holds it.
+abbrev pub if_held : Bool → ℕ → List ℕ
+if_held held q = cond held (32 ∷ hex_byte q) []

@@ -4,6 +4,7 @@
 pub mod arguments;
 pub mod crc;
 mod head;
+pub mod held;
 mod image;
 pub mod listing;
 mod report;

@@ -1,10 +1,10 @@
 // The listing: what a window shows of an image, as text.
 ghost use Rattle.std.specs.Prelude.{◌≡◌, ℕ, ◌++◌, map, IfOk, string_bytes, OnOk};
-ghost use Rattle.pagemap.specs.Lines.{page_opened};
 ghost use Rattle.pagemap.specs.Listing.{Answers, asked, text_of_map, opened_text, pages_text};
 
 use crate::arguments::window;
 use crate::head::Head;
+use crate::held::page_if;
 use crate::image::Image;
 use crate::report::PageReport;
 use crate::unlisted::Unlisted;
@@ -25,23 +25,12 @@ fn pages<M: Memory>(text: &mut String, image: &Image<'_, M>) -> Result<(), Alloc
     Ok(())
 }
 
-// A physical page, if the window opens on it.
-#[tactic(auto, using(text::proofs::Written::printed))]
-fn opened_page(text: &mut String, window: Window, page: u8) -> Result<(), AllocError>
-    ensures { OnOk result (string_bytes text.new ≡ string_bytes text.old ++ page_opened window page) }
-{
-    if !window.opens_on(page) {
-        return Ok(());
-    }
-    write!(text, " {page:02X}")
-}
-
 // All physical pages that the window opens on.
 fn opened(text: &mut String, window: Window) -> Result<(), AllocError>
-    ensures { OnOk result (string_bytes text.new ≡ string_bytes text.old ++ opened_text window 128) }
+    ensures { OnOk result (string_bytes text.new ≡ string_bytes text.old ++ opened_text window) }
 {
     for page in 0..128u8 {
-        opened_page(text, window, page)?;
+        page_if(text, window.opens_on(page), page)?;
     }
     Ok(())
 }
