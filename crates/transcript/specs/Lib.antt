@@ -1,0 +1,9 @@
+pub mod Denials
+pub mod Answers
+pub mod Registers
+pub mod Panels
+pub mod Memory
+pub mod Shown
+pub mod Opened
+pub mod Compared
+pub mod Worked
