@@ -1,6 +1,7 @@
 // The window: the three bytes that say which sixteen physical pages the 64 KiB logical space shows.
 ghost use Rattle.std.specs.Fmt.{padded};
 ghost use Rattle.std.specs.Prelude.{◌≡◌, ◌<◌, Some};
+ghost use Rattle.registers.specs.Registers.{fresh_window};
 ghost use Rattle.registers.specs.Window.{OpensOn, WindowLaws, area_name, area_of, base_of, opens_on, page_of, physical_of, shown_page};
 
 use std::fmt;
@@ -107,8 +108,9 @@ impl Window {
     }
 }
 
-// Names the laws of the window, so that they are proved; it does nothing.
+// Names the laws of the window, and which window reset leaves, so that they are proved; it does nothing.
 #[tactic(auto, using(crate::proofs::Opened::laws))]
 pub fn window_laws()
-    ensures { WindowLaws }
+    ensures laws { WindowLaws }
+    ensures reset { Window.RESET ≡ fresh_window }
 {}
