@@ -1,7 +1,7 @@
 -- What memory a plug makes of the one below it. A plug looks up what it alters by a key. Assumes nothing.
-use Rattle.std.specs.Prelude.{◌≡◌, ℕ, ◌/◌, Bool, false, cond, List, is_some, Some, None, Ok, Err, Option, Result, nat_lt}
+use Rattle.std.specs.Prelude.{◌≡◌, ℕ, ◌/◌, Bool, false, cond, ◌&&◌, List, is_some, Some, None, Ok, Err, Option, Result, nat_lt}
 use Rattle.denial.specs.Denials.{Told, told}
-use Rattle.memory.specs.Memory.{Mem, is_address}
+use Rattle.memory.specs.Memory.{Mem, is_address, store}
 use Rattle.plugs.specs.Entries.{latest, plug_denial}
 use Rattle.plugs.specs.Places.{entry_of, held}
 use Rattle.plugs.specs.declared.entry.Page.{Page}
@@ -57,6 +57,17 @@ protect_memory memory p = plug_memory page_key protected memory p
 
 abbrev pub patch_memory : {M : Type 0} → (M → Mem) → Plug PatchEntry M → Mem
 patch_memory memory p = plug_memory patch_key patched memory p
+
+-- Whether a plug keeps a write to the address a from the memory below.
+abbrev pub protect_keeps : {M : Type 0} → Plug Page M → ℕ → Bool
+protect_keeps p a = is_address a && is_some (entry_of page_key (held p.entries) (a / 4096))
+
+abbrev pub patch_keeps : {M : Type 0} → Plug PatchEntry M → ℕ → Bool
+patch_keeps p a = is_address a && is_some (entry_of patch_key (held p.entries) a)
+
+-- The memory below after a write to the plug: as it was if the write was kept from it, else written.
+abbrev pub below_written : Bool → Mem → ℕ → ℕ → Mem
+below_written kept m a b = cond kept m (store m a b)
 
 -- What the making of a plug is to answer: the memory that results, or the denial with the memory below handed back.
 abbrev pub plugged : {M : Type 0} → Option Told → Mem → M → Result Mem (Told × M)

@@ -1,7 +1,7 @@
 // A plug of either kind: entries that name what it alters, over any memory.
 ghost use Rattle.plugs.specs.Entries.{latest, plug_denial};
 ghost use Rattle.plugs.specs.Plugs.{MakingLaws, made, plug_memory, plugged};
-ghost use Rattle.std.specs.Prelude.{◌≡◌};
+ghost use Rattle.std.specs.Prelude.{◌≡◌, IfOk};
 
 use crate::entry::Entry;
 use crate::table::Table;
@@ -18,7 +18,8 @@ pub struct Plug<E, M> {
 impl<E: Entry, M: Memory> Plug<E, M> {
     // The plug with these entries over the memory below, or 2 or 3 with that memory handed back.
     pub fn new(below: M, entries: &[E]) -> Result<Plug<E, M>, Unmade<M>>
-        ensures { made (plug_memory E.Entry.key E.Entry.altered M.Memory.memory) result ≡ plugged (plug_denial E.Entry.key E.Entry.ranged entries.now) (E.Entry.altered (latest E.Entry.key entries.now) (M.Memory.memory below)) below }
+        ensures answer { made (plug_memory E.Entry.key E.Entry.altered M.Memory.memory) result ≡ plugged (plug_denial E.Entry.key E.Entry.ranged entries.now) (E.Entry.altered (latest E.Entry.key entries.now) (M.Memory.memory below)) below }
+        ensures below { IfOk result (λ p. p.below ≡ below) }
     {
         match Table::of(entries) {
             Ok(entries) => Ok(Plug { below, entries }),
