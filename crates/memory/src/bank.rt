@@ -1,72 +1,14 @@
-// A bank: a lent run of bytes from address 0, which all take writes. Behind it addresses hold FFH and take no writes.
-ghost use Rattle.std.specs.Prelude.{◌≡◌, ◌≤◌, length, take};
-ghost use Rattle.denial.specs.Denials.{answered};
-ghost use Rattle.memory.specs.Boards.{bank as bank_over, bank_memory, bank_run, bytes_of, cut};
-ghost use Rattle.memory.specs.Memory.{accepted, store};
+// A bank: a lent run of bytes from address 0, which all take writes. Behind it addresses hold FFH and take no writes. The struct
+// stands alone, so that definitions can cite it; its calls are in the module below.
+ghost use Rattle.std.specs.Prelude.{◌≤◌, length as length_of};
 
-use crate::length::BoardLength;
-use crate::{Memory, place};
-use denial::Denial;
+mod calls;
 
 #[derive(Drop)]
 pub struct Bank<'a> {
     bytes: &'a mut [u8],
     // beside the bytes, since the bank may end before they do, and all of them go back to the lender
     length: usize,
-}
-
-impl<'a> Bank<'a> {
-    // The bank of that length over the lent bytes.
-    pub fn new(bytes: &'a mut [u8], size: BoardLength) -> Bank<'a>
-        ensures memory { bank_memory result ≡ cut (bytes_of size) (bank_over bytes.old) }
-        ensures whole { length bytes.old ≤ bytes_of size → bank_memory result ≡ bank_over bytes.old }
-        ensures bytes { result.bytes.now ≡ bytes.old }
-        ensures size { result.length ≡ bytes_of size }
-        ensures loan { result.bytes.ghost_name ≡ bytes.entry.ghost_name }
-    {
-        Bank {
-            bytes,
-            length: size.bytes(),
-        }
-    }
-
-    // The bytes that the bank is over: it ends at `length`, or where the lent bytes end.
-    fn in_use(&self) -> &[u8]
-        ensures { result.now ≡ take self.now.length self.now.bytes.now }
-    {
-        &self.bytes[..self.length.min(self.bytes.len())]
-    }
-
-    // Ends the bank and hands the loan back, with the bytes that the bank held.
-    pub fn into_bytes(self) -> &'a mut [u8]
-        ensures memory { bank_memory self.entry ≡ cut self.entry.length (bank_over result.now) }
-        ensures bytes { result.now ≡ self.entry.bytes.now }
-        ensures loan { result.ghost_name ≡ self.entry.bytes.ghost_name }
-    {
-        let Bank { bytes, length: _ } = self;
-        bytes
-    }
-}
-
-impl<'a> Memory for Bank<'a> {
-    ghost memory = { bank_memory };
-
-    fn read(&self, at: u32) -> Result<u8, Denial> {
-        Ok(*self.in_use().get(place(at)?).unwrap_or(&0xFF))
-    }
-
-    // The bytes stay on the loan they came by, so that the lender knows them by the model.
-    fn write(&mut self, at: u32, byte: u8) -> Result<(), Denial>
-        ensures answer { answered result ≡ accepted at }
-        ensures after { bank_memory self.new ≡ store (bank_memory self.old) at byte }
-        ensures bytes { self.new.bytes.now ≡ bank_run self.old at byte }
-        ensures loan { self.new.bytes.ghost_name ≡ self.old.bytes.ghost_name }
-    {
-        let i = place(at)?;
-        // tried: a slice's get_mut says nothing of what the slice ends as
-        if i < self.in_use().len() {
-            self.bytes[i] = byte;
-        }
-        Ok(())
-    }
+    // so that an access tests one bound
+    ghost lent: { length ≤ length_of bytes.now },
 }
