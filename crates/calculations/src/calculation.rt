@@ -23,7 +23,7 @@ use memory::Memory;
 use operands::address::along;
 use operands::word::Word;
 use panel::Panel;
-use registers::operand::{Direction, Index, Pair};
+use registers::operand::{Direction, Index, Pair, Register};
 use registers::registers::Registers;
 
 // A calculation.
@@ -33,22 +33,10 @@ pub fn calculate<M: Memory, P: Panel>(m: &mut Machine<M, P>, form: Arithmetic)
     ensures { Ends P.make M.memory P.state (calculates form) m.old m.new }
 {
     match form {
-        Arithmetic::Register(operation, from) => {
-            let byte = m.register_byte(from);
-            operate(&mut m.cpu, operation, byte);
-        }
-        Arithmetic::Byte(operation) => {
-            let byte = m.operand();
-            operate(&mut m.cpu, operation, byte);
-        }
-        Arithmetic::Memory(operation) => {
-            let byte = m.read_at(Pair::Hl);
-            operate(&mut m.cpu, operation, byte);
-        }
-        Arithmetic::Indexed(operation, from) => {
-            let byte = m.read_indexed(from);
-            operate(&mut m.cpu, operation, byte);
-        }
+        Arithmetic::Register(operation, from) => operate_register(m, operation, from),
+        Arithmetic::Byte(operation) => operate_byte(m, operation),
+        Arithmetic::Memory(operation) => operate_memory(m, operation),
+        Arithmetic::Indexed(operation, from) => operate_indexed(m, operation, from),
         Arithmetic::IncrementRegister(name) => in_register(m, Increment, name),
         Arithmetic::IncrementMemory => at_hl(m, Increment),
         Arithmetic::IncrementIndexed(name) => at_index(m, Increment, name),
@@ -100,6 +88,46 @@ fn operate(cpu: &mut Registers, operation: Operation, byte: u8)
     ensures { cpu.new ≡ of.operated operation byte cpu.old }
 {
     accumulate(cpu, |a, flags| operation.apply(a, byte, flags));
+}
+
+// ADD A,r and the seven others
+fn operate_register<M: Memory, P: Panel>(
+    m: &mut Machine<M, P>,
+    operation: Operation,
+    from: Register,
+)
+    requires { Below 500 m.old }
+    ensures { Ends P.make M.memory P.state (calculates (form.Register operation from)) m.old m.new }
+{
+    let byte = m.register_byte(from);
+    operate(&mut m.cpu, operation, byte);
+}
+
+// ADD A,n and the seven others
+fn operate_byte<M: Memory, P: Panel>(m: &mut Machine<M, P>, operation: Operation)
+    requires { Below 500 m.old }
+    ensures { Ends P.make M.memory P.state (calculates (form.Byte operation)) m.old m.new }
+{
+    let byte = m.operand();
+    operate(&mut m.cpu, operation, byte);
+}
+
+// ADD A,(HL) and the seven others
+fn operate_memory<M: Memory, P: Panel>(m: &mut Machine<M, P>, operation: Operation)
+    requires { Below 500 m.old }
+    ensures { Ends P.make M.memory P.state (calculates (form.Memory operation)) m.old m.new }
+{
+    let byte = m.read_at(Pair::Hl);
+    operate(&mut m.cpu, operation, byte);
+}
+
+// ADD A,(IX+d) and the seven others
+fn operate_indexed<M: Memory, P: Panel>(m: &mut Machine<M, P>, operation: Operation, from: Index)
+    requires { Below 500 m.old }
+    ensures { Ends P.make M.memory P.state (calculates (form.Indexed operation from)) m.old m.new }
+{
+    let byte = m.read_indexed(from);
+    operate(&mut m.cpu, operation, byte);
 }
 
 // F after a test of A with a byte.

@@ -23,13 +23,10 @@ use transfers::block::on_block;
 use transfers::port::on_port;
 
 // The displacement, where there is one, stood before the last opcode byte; where there is none it is 0, as in the definition: an Option
-// would be taken apart in each form that asks for it, where it is never None. PREFIXED has this compiled twice, so that a first byte
-// leads straight to its instruction.
-fn carry_out<const PREFIXED: bool, M: Memory, P: Panel>(
-    m: &mut Machine<M, P>,
-    instruction: Instruction,
-    displacement: u8,
-)
+// would be taken apart in each form that asks for it, where it is never None. Inlined, so that on each page an opcode byte leads
+// straight to its instruction.
+#[inline(always)]
+fn carry_out<M: Memory, P: Panel>(m: &mut Machine<M, P>, instruction: Instruction, displacement: u8)
     requires { Below 300 m.old }
     ensures { Ends P.make M.memory P.state (of.carried_out instruction displacement) m.old m.new }
 {
@@ -47,7 +44,11 @@ fn carry_out<const PREFIXED: bool, M: Memory, P: Panel>(
     }
 }
 
+// Not inlined, nor are the pages behind a prefix: the first byte's page then needs no more registers than a call may change, and each of
+// its steps saves none.
+//
 // UFO says whether the third opcode byte is undefined, or the second. The address of that byte is pushed.
+#[inline(never)]
 fn trap<M: Memory, P: Panel>(m: &mut Machine<M, P>, byte: Undefined, start: u16)
     requires { Below 300 m.old }
     ensures { Ends P.make M.memory P.state (of.trapped (undefined.ufo byte) (undefined.address byte start)) m.old m.new }
@@ -58,6 +59,7 @@ fn trap<M: Memory, P: Panel>(m: &mut Machine<M, P>, byte: Undefined, start: u16)
 }
 
 // What the last opcode byte of the instruction from `start` on was decoded to, or which byte is undefined.
+#[inline(always)]
 fn carry_out_or_trap<M: Memory, P: Panel>(
     m: &mut Machine<M, P>,
     decoded: Result<Instruction, Undefined>,
@@ -68,12 +70,13 @@ fn carry_out_or_trap<M: Memory, P: Panel>(
     ensures { Ends P.make M.memory P.state (undefined.carried_out_or_trapped decoded displacement start) m.old m.new }
 {
     match decoded {
-        Ok(instruction) => carry_out::<true, M, P>(m, instruction, displacement),
+        Ok(instruction) => carry_out(m, instruction, displacement),
         Err(byte) => trap(m, byte, start),
     }
 }
 
 // Behind DDH CBH and FDH CBH the displacement comes before the third opcode byte.
+#[inline(never)]
 fn third<M: Memory, P: Panel>(m: &mut Machine<M, P>, name: Index, start: u16)
     requires { Below 250 m.old }
     ensures { Ends P.make M.memory P.state (of.third name start) m.old m.new }
@@ -89,12 +92,13 @@ fn behind_index<M: Memory, P: Panel>(m: &mut Machine<M, P>, second: Second, name
     ensures { Ends P.make M.memory P.state (of.behind_index second name start) m.old m.new }
 {
     match second {
-        Second::Instruction(instruction) => carry_out::<true, M, P>(m, instruction, 0),
+        Second::Instruction(instruction) => carry_out(m, instruction, 0),
         Second::BitsPrefix => third(m, name, start),
         Second::Undefined => trap(m, Undefined::Second, start),
     }
 }
 
+#[inline(never)]
 fn on_page<M: Memory, P: Panel>(m: &mut Machine<M, P>, page: Page, start: u16)
     requires { Below 150 m.old }
     ensures { Ends P.make M.memory P.state (of.on_page page start) m.old m.new }
@@ -118,7 +122,7 @@ fn behind_first<M: Memory, P: Panel>(m: &mut Machine<M, P>, first: First, start:
     ensures { Ends P.make M.memory P.state (of.behind_first first start) m.old m.new }
 {
     match first {
-        First::Instruction(instruction) => carry_out::<false, M, P>(m, instruction, 0),
+        First::Instruction(instruction) => carry_out(m, instruction, 0),
         First::Prefix(page) => on_page(m, page, start),
     }
 }

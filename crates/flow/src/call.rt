@@ -37,7 +37,8 @@ pub fn enter<M: Memory, P: Panel>(m: &mut Machine<M, P>, to: u16)
     m.cpu.pc = to;
 }
 
-// RET and RETI
+// RET and RETI. Not inlined, nor is RST, so that the decoder of the first byte saves no registers.
+#[inline(never)]
 fn back<M: Memory, P: Panel>(m: &mut Machine<M, P>)
     requires { Below 600 m.old }
     ensures { Ends P.make M.memory P.state of.returns m.old m.new }
@@ -93,6 +94,7 @@ fn return_from_nmi<M: Memory, P: Panel>(m: &mut Machine<M, P>)
 }
 
 // RST v
+#[inline(never)]
 fn restart<M: Memory, P: Panel>(m: &mut Machine<M, P>, to: u8)
     requires { Below 500 m.old }
     ensures { Ends P.make M.memory P.state (calls (form.Restart to)) m.old m.new }

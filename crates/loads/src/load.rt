@@ -26,30 +26,12 @@ pub fn load<M: Memory, P: Panel>(m: &mut Machine<M, P>, form: Load)
     ensures { Ends P.make M.memory P.state (loads form) m.old m.new }
 {
     match form {
-        Load::RegisterRegister(to, from) => {
-            let value = m.register_byte(from);
-            set_byte(&mut m.cpu, to, value);
-        }
-        Load::RegisterByte(to) => {
-            let value = m.operand();
-            set_byte(&mut m.cpu, to, value);
-        }
-        Load::RegisterMemory(to) => {
-            let value = m.read_at(Pair::Hl);
-            set_byte(&mut m.cpu, to, value);
-        }
-        Load::RegisterIndexed(to, from) => {
-            let value = m.read_indexed(from);
-            set_byte(&mut m.cpu, to, value);
-        }
-        Load::MemoryRegister(from) => {
-            let value = m.register_byte(from);
-            m.write_at(Pair::Hl, value);
-        }
-        Load::MemoryByte => {
-            let value = m.operand();
-            m.write_at(Pair::Hl, value);
-        }
+        Load::RegisterRegister(to, from) => register_register(m, to, from),
+        Load::RegisterByte(to) => register_byte(m, to),
+        Load::RegisterMemory(to) => register_memory(m, to),
+        Load::RegisterIndexed(to, from) => register_indexed(m, to, from),
+        Load::MemoryRegister(from) => memory_register(m, from),
+        Load::MemoryByte => memory_byte(m),
         Load::IndexedRegister(to, from) => indexed_register(m, to, from),
         Load::IndexedByte(to) => indexed_byte(m, to),
         Load::AccumulatorPointer(from) => accumulator_pointer(m, from),
@@ -71,6 +53,60 @@ pub fn load<M: Memory, P: Panel>(m: &mut Machine<M, P>, form: Load)
         Load::SpHl => sp_word(m, Pair::Hl),
         Load::SpIndex(from) => sp_word(m, from),
     }
+}
+
+// LD r,r'
+fn register_register<M: Memory, P: Panel>(m: &mut Machine<M, P>, to: Register, from: Register)
+    requires { Below 500 m.old }
+    ensures { Ends P.make M.memory P.state (loads (form.RegisterRegister to from)) m.old m.new }
+{
+    let value = m.register_byte(from);
+    set_byte(&mut m.cpu, to, value);
+}
+
+// LD r,n
+fn register_byte<M: Memory, P: Panel>(m: &mut Machine<M, P>, to: Register)
+    requires { Below 500 m.old }
+    ensures { Ends P.make M.memory P.state (loads (form.RegisterByte to)) m.old m.new }
+{
+    let value = m.operand();
+    set_byte(&mut m.cpu, to, value);
+}
+
+// LD r,(HL)
+fn register_memory<M: Memory, P: Panel>(m: &mut Machine<M, P>, to: Register)
+    requires { Below 500 m.old }
+    ensures { Ends P.make M.memory P.state (loads (form.RegisterMemory to)) m.old m.new }
+{
+    let value = m.read_at(Pair::Hl);
+    set_byte(&mut m.cpu, to, value);
+}
+
+// LD r,(IX+d)
+fn register_indexed<M: Memory, P: Panel>(m: &mut Machine<M, P>, to: Register, from: Index)
+    requires { Below 500 m.old }
+    ensures { Ends P.make M.memory P.state (loads (form.RegisterIndexed to from)) m.old m.new }
+{
+    let value = m.read_indexed(from);
+    set_byte(&mut m.cpu, to, value);
+}
+
+// LD (HL),r
+fn memory_register<M: Memory, P: Panel>(m: &mut Machine<M, P>, from: Register)
+    requires { Below 500 m.old }
+    ensures { Ends P.make M.memory P.state (loads (form.MemoryRegister from)) m.old m.new }
+{
+    let value = m.register_byte(from);
+    m.write_at(Pair::Hl, value);
+}
+
+// LD (HL),n
+fn memory_byte<M: Memory, P: Panel>(m: &mut Machine<M, P>)
+    requires { Below 500 m.old }
+    ensures { Ends P.make M.memory P.state (loads form.MemoryByte) m.old m.new }
+{
+    let value = m.operand();
+    m.write_at(Pair::Hl, value);
 }
 
 // LD (IX+d),r
