@@ -9,9 +9,9 @@ use opened::pages::Pages;
 // differ. A count of 2^64 lines stays there.
 #[derive(Drop)]
 pub struct Progress {
-    pub lines: u64,
+    pub lines: usize,
     pub opened: Pages,
-    pub difference: Option<u64>,
+    pub difference: Option<usize>,
 }
 
 impl Progress {
@@ -35,10 +35,10 @@ impl Progress {
         ensures difference { IfSome difference (λ k. self.old.lines + k < 2 ^ 64) → self.new.difference ≡ first_of self.old.difference self.old.lines difference }
     {
         self.difference = match (self.difference, difference) {
-            (None, Some(line)) => Some(self.lines.saturating_add(line as u64)),
+            (None, Some(line)) => Some(self.lines.saturating_add(line)),
             (earlier, _) => earlier,
         };
-        self.lines = self.lines.saturating_add(served as u64);
+        self.lines = self.lines.saturating_add(served);
         self.opened.join(opened);
     }
 }

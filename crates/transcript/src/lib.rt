@@ -7,7 +7,7 @@ pub mod denied;
 mod fault;
 pub mod laws;
 pub mod memory_line;
-pub mod opened;
+pub mod pages_line;
 mod register_lines;
 pub mod show;
 pub mod shown;
