@@ -5,7 +5,7 @@ use Rattle.cycles.specs.Play.{Tally}
 use Rattle.processor.specs.Log.{Answer, stepped, ran, was_reset, saw}
 use Rattle.processor.specs.Run.{Ran}
 use Rattle.processor.specs.Step.{Faulted}
-use Rattle.plot.specs.Lines.{run_line}
+use Rattle.plot.specs.Lines.{line, run_line}
 use Rattle.transcript.specs.Denials.{denial_text, fault_text}
 
 -- What a step took; both sums are decimal.
@@ -33,3 +33,8 @@ answer_text (ran (Err d)) = denial_text d
 answer_text was_reset = codes "reset"
 answer_text (saw (Ok bytes)) = codes "look" ++ bytes_text bytes
 answer_text (saw (Err d)) = denial_text d
+
+-- A line for each answer.
+abbrev pub answers_text : List Answer → List ℕ
+answers_text [] = []
+answers_text (a ∷ rest) = line (answer_text a) ++ answers_text rest

@@ -3,9 +3,9 @@ ghost use Rattle.answers.specs.Answers.{answer_of};
 ghost use Rattle.card.specs.Cards.{ran_of};
 ghost use Rattle.machine.specs.Machines.{tally};
 ghost use Rattle.plot.specs.Lines.{line};
-ghost use Rattle.std.specs.Prelude.{◌≡◌, ◌∷◌, ◌++◌, string_bytes, OnOk, Some, codes};
+ghost use Rattle.std.specs.Prelude.{◌≡◌, ◌∷◌, ◌++◌, map, string_bytes, OnOk, Some, codes};
 ghost use Rattle.text.specs.Hexadecimal.{hex_byte};
-ghost use Rattle.transcript.specs.Answers.{answer_text, bytes_text, run_text, step_text};
+ghost use Rattle.transcript.specs.Answers.{answer_text, answers_text, bytes_text, run_text, step_text};
 
 use crate::denied::denial_line;
 use crate::fault::Faulted;
@@ -87,4 +87,13 @@ pub fn answer_line(text: &mut String, answer: &Answer) -> Result<(), AllocError>
         Answer::Look(Ok(bytes)) => look(text, bytes.as_slice()),
         Answer::Run(Err(denial)) | Answer::Look(Err(denial)) => denial_line(text, *denial),
     }
+}
+
+pub fn answer_lines(text: &mut String, answers: &[Answer]) -> Result<(), AllocError>
+    ensures { OnOk result (string_bytes text.new ≡ string_bytes text.old ++ answers_text (map answer_of answers.now)) }
+{
+    for answer in answers {
+        answer_line(text, answer)?;
+    }
+    Ok(())
 }
