@@ -1,0 +1,4 @@
+// The commands of a script, and how one is read from a line of it.
+#![tactic(auto)]
+
+pub mod command;
