@@ -1,6 +1,6 @@
 -- The window that the program's arguments ask for. Assumes nothing.
 use Rattle.std.specs.Prelude.{ℕ, cond, List, [], ◌∷◌, ◌++◌, Some, None, Ok, Err, codes, Result, nat_lt}
-use Rattle.text.specs.Hexadecimal.{byte_value}
+use Rattle.text.specs.Numbers.{byte_value}
 use Rattle.registers.specs.declared.window.Window.{Window}
 use Rattle.pagemap.specs.declared.arguments.Place.{Place}
 use Rattle.pagemap.specs.declared.arguments.Place.TheVariants.{Cbar, Cbr, Bbr}

@@ -1,2 +1,4 @@
 pub mod Hexadecimal
 pub mod Columns
+pub mod Numbers
+pub mod Words
