@@ -2,3 +2,6 @@
 #![tactic(auto)]
 
 pub mod command;
+mod counts;
+pub mod form;
+pub mod wrong;
