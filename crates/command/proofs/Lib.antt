@@ -1,1 +1,3 @@
 mod Spelled
+pub mod Listing
+pub mod Texts

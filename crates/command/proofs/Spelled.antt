@@ -1,5 +1,5 @@
 -- A name by its letters. Assumes nothing.
-use Rattle.std.proofs.Common.{◌≡◌, ℕ, zero, suc, List, [], ◌∷◌, length, get_or, refl, sym, ap, ◌∙◌, arith}
+use Rattle.std.proofs.Common.{◌≡◌, ℕ, suc, List, [], ◌∷◌, length, get_or, refl, arith}
 
 -- the letters of xs from i on
 abbrev pub Letters : List ℕ → ℕ → List ℕ → Type 0

@@ -5,6 +5,8 @@ use Rattle.command.specs.declared.wrong.Place.{Place}
 use Rattle.command.specs.declared.wrong.Place.TheVariants.{Length, Hh, Page, Records, Byte, States, Times, Budget, Cbar, Cbr, Bbr}
 use Rattle.command.specs.declared.wrong.Wrong.{Wrong}
 use Rattle.command.specs.declared.wrong.Wrong.TheVariants.{NoCommand, Count, NotDecimal, NotAByte, NotAnAddress, NotALogicalAddress, NotAPatch, NotText}
+use Rattle.command.specs.declared.unread.Unread.{Unread}
+use Rattle.command.specs.declared.unread.Unread.TheVariants as unread
 
 abbrev pub place_name : Place → List ℕ
 place_name Length = codes "LENGTH"
@@ -28,3 +30,8 @@ wrong_line NotAnAddress = codes "ADDRESS is not one to eight hexadecimal digits"
 wrong_line NotALogicalAddress = codes "ADDRESS is not one to four hexadecimal digits"
 wrong_line NotAPatch = codes "a patch is written ADDRESS=HH"
 wrong_line NotText = codes "FILE is not UTF-8"
+
+-- Want of memory is no fault of the line.
+abbrev pub unread_line : Unread → List ℕ
+unread_line (unread.Wrong w) = wrong_line w
+unread_line unread.NoMemory = codes "no memory for the line"

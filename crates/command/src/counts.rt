@@ -1,5 +1,5 @@
 // Whether a command has as many words behind its name as it wants.
-ghost use Rattle.command.specs.Counts.{no_word, one_word, three_words, first_word, optional_word, seen_one, seen_three, seen_first, seen_optional};
+ghost use Rattle.command.specs.Counts.{first_word, five_words, no_word, one_word, optional_word, some_words, three_words, two_words, seen_first, seen_five, seen_one, seen_optional, seen_some, seen_three, seen_two};
 ghost use Rattle.std.specs.Prelude.{◌≡◌, map};
 
 use crate::form::Form;
@@ -23,7 +23,19 @@ pub(crate) fn one<'a>(form: Form, words: &[&'a [u8]]) -> Result<&'a [u8], Wrong>
     }
 }
 
-pub(crate) fn three<'a>(form: Form, words: &[&'a [u8]]) -> Result<(&'a [u8], &'a [u8], &'a [u8]), Wrong>
+pub(crate) fn two<'a>(form: Form, words: &[&'a [u8]]) -> Result<(&'a [u8], &'a [u8]), Wrong>
+    ensures { seen_two result ≡ two_words form (map (λ w. w.now) words.now) }
+{
+    match words {
+        [a, b] => Ok((*a, *b)),
+        _ => Err(Wrong::Count(form)),
+    }
+}
+
+pub(crate) fn three<'a>(
+    form: Form,
+    words: &[&'a [u8]],
+) -> Result<(&'a [u8], &'a [u8], &'a [u8]), Wrong>
     ensures { seen_three result ≡ three_words form (map (λ w. w.now) words.now) }
 {
     match words {
@@ -32,8 +44,32 @@ pub(crate) fn three<'a>(form: Form, words: &[&'a [u8]]) -> Result<(&'a [u8], &'a
     }
 }
 
+pub(crate) fn five<'a>(
+    form: Form,
+    words: &[&'a [u8]],
+) -> Result<(&'a [u8], &'a [u8], &'a [u8], &'a [u8], &'a [u8]), Wrong>
+    ensures { seen_five result ≡ five_words form (map (λ w. w.now) words.now) }
+{
+    match words {
+        [a, b, c, d, e] => Ok((*a, *b, *c, *d, *e)),
+        _ => Err(Wrong::Count(form)),
+    }
+}
+
+pub(crate) fn some<'b, 'a>(form: Form, words: &'b [&'a [u8]]) -> Result<&'b [&'a [u8]], Wrong>
+    ensures { seen_some result ≡ some_words form (map (λ w. w.now) words.now) }
+{
+    if words.is_empty() {
+        return Err(Wrong::Count(form));
+    }
+    Ok(words)
+}
+
 // The first word and those behind it.
-pub(crate) fn first<'b, 'a>(form: Form, words: &'b [&'a [u8]]) -> Result<(&'a [u8], &'b [&'a [u8]]), Wrong>
+pub(crate) fn first<'b, 'a>(
+    form: Form,
+    words: &'b [&'a [u8]],
+) -> Result<(&'a [u8], &'b [&'a [u8]]), Wrong>
     ensures { seen_first result ≡ first_word form (map (λ w. w.now) words.now) }
 {
     match words {

@@ -4,4 +4,9 @@
 pub mod command;
 mod counts;
 pub mod form;
+pub mod line;
+mod lists;
+mod places;
+mod sayings;
+pub mod unread;
 pub mod wrong;

@@ -65,12 +65,8 @@ impl fmt::Display for Wrong {
                 f,
                 "{place} is not a decimal number up to 4294967295"
             ),
-            Wrong::NotAByte(place) => {
-                write!(f, "{place} is not one or two hexadecimal digits")
-            }
-            Wrong::NotAnAddress => {
-                f.write_str("ADDRESS is not one to eight hexadecimal digits")
-            }
+            Wrong::NotAByte(place) => { write!(f, "{place} is not one or two hexadecimal digits") }
+            Wrong::NotAnAddress => { f.write_str("ADDRESS is not one to eight hexadecimal digits") }
             Wrong::NotALogicalAddress => {
                 f.write_str("ADDRESS is not one to four hexadecimal digits")
             }
