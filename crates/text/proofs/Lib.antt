@@ -1,2 +1,4 @@
 pub mod Written
 pub mod Numbers
+pub mod Readings
+pub mod Splitting

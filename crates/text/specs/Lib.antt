@@ -2,3 +2,4 @@ pub mod Hexadecimal
 pub mod Columns
 pub mod Numbers
 pub mod Words
+pub mod Laws

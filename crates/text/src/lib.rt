@@ -5,4 +5,5 @@
 pub mod decimal;
 mod digits;
 pub mod hex;
+pub mod laws;
 pub mod words;
