@@ -5,3 +5,4 @@ pub mod Words
 pub mod Reads
 pub mod Said
 pub mod Commands
+pub mod Worked

@@ -4,6 +4,7 @@
 pub mod command;
 mod counts;
 pub mod form;
+pub mod laws;
 pub mod line;
 mod lists;
 mod places;

@@ -65,11 +65,11 @@ impl fmt::Display for Wrong {
                 f,
                 "{place} is not a decimal number up to 4294967295"
             ),
-            Wrong::NotAByte(place) => { write!(f, "{place} is not one or two hexadecimal digits") }
-            Wrong::NotAnAddress => { f.write_str("ADDRESS is not one to eight hexadecimal digits") }
-            Wrong::NotALogicalAddress => {
-                f.write_str("ADDRESS is not one to four hexadecimal digits")
-            }
+            Wrong::NotAByte(place) => write!(f, "{place} is not one or two hexadecimal digits"),
+            Wrong::NotAnAddress => f.write_str("ADDRESS is not one to eight hexadecimal digits"),
+            Wrong::NotALogicalAddress => f.write_str(
+                "ADDRESS is not one to four hexadecimal digits",
+            ),
             Wrong::NotAPatch => f.write_str("a patch is written ADDRESS=HH"),
             Wrong::NotText => f.write_str("FILE is not UTF-8"),
         }
