@@ -18,7 +18,8 @@ pub struct Walk<'a> {
 impl<'a> Iterator for Walk<'a> {
     type Item = (u16, Record);
 
-    ghost next_gives = { λ s r t. MatchOption r (length (left_to_walk s) ≡ 0) (λ x. left_to_walk s ≡ x ∷ left_to_walk t) };
+    // None at the end, and from then on.
+    ghost next_gives = { λ s r t. MatchOption r ((length (left_to_walk s) ≡ 0) × (length (left_to_walk t) ≡ 0)) (λ x. left_to_walk s ≡ x ∷ left_to_walk t) };
 
     ghost remaining = { λ s. at_most s.most };
 

@@ -11,5 +11,5 @@ loop-number-preserved c =
 
 pub returns : goal.returns
 returns c =
-    records_done c.args.track _ _ _ c.loop-number.invariant c.in-None.ensures.steps
+    records_done c.args.track _ _ _ c.loop-number.invariant c.in-None.ensures.steps.0
     ∙ ap (λ (met : List (ℕ × Record)). string_bytes c.args.text.now ++ lines_of c.args.track met) (ap left_to_walk c.into_iter-number-iterator.ensures.into_iter_gives ∙ c.walk-number-items.ensures)

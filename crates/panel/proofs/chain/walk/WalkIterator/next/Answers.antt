@@ -6,7 +6,8 @@ use Rattle.panel.proofs.chain.walk.WalkIterator.next.Goals as goal
 pub returns-in_err-record-clause-steps : goal.returns-in_err-record-clause-steps
 returns-in_err-record-clause-steps c =
     let self = c.args.self.now in
-    rw c.from_residual.ensures (walked_end (chain_state self.panel.now) self.most self.number c.in_err-record.ensures)
+    let end = walked_end (chain_state self.panel.now) self.most self.number c.in_err-record.ensures in
+    rw c.from_residual.ensures (end, end)
 
 pub returns : goal.returns
 returns c =
