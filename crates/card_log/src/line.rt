@@ -8,7 +8,7 @@ ghost use Rattle.opened.specs.Opened.{by_call};
 ghost use Rattle.opened.specs.Pages.{joined, pages_of};
 ghost use Rattle.processor.specs.Log as log;
 ghost use Rattle.processor.specs.Run as running;
-ghost use Rattle.std.specs.Prelude.{◌≡◌, true, IfOk, IfSome, vec_items, vec_len};
+ghost use Rattle.std.specs.Prelude.{◌≡◌, true, IfOk, IfSome, OnErr, is_some, vec_items, vec_len};
 
 use crate::opening::Opening;
 use answers::answer::Answer;
@@ -34,8 +34,10 @@ pub(crate) struct Line {
 }
 
 impl Line {
+    // Memory is wanted for nothing but the bytes of such a look.
     pub(crate) fn new(heap: Global, call: Call) -> Result<Line, AllocError>
-        ensures { IfOk result (λ l. l.call ≡ call) }
+        ensures line { IfOk result (λ l. l.call ≡ call) }
+        ensures needed { OnErr result (is_some (room_for (call_of call)) ≡ true) }
     {
         let room = match call {
             Call::Look(window, _, length) if is_look(window, length) => {
