@@ -7,6 +7,7 @@ mod sum;
 
 use anyhow::anyhow;
 use card::card::Card;
+use card::look::LONGEST;
 use denial::Denial;
 use image::IMAGE;
 use memory::Memory;
@@ -15,12 +16,12 @@ use memory::length::BoardLength;
 use panel::Panel;
 use panel::script::Script;
 use panel::sent::Sent;
-use registers::registers::Registers;
 use std::alloc::{AllocError, Global};
 use std::io::Read;
-use sum::checksum;
+use sum::{bytes_mixed, registers_mixed};
 
-const BYTES: usize = 65_536;
+// As far as the image's window reaches: the bank area shows pages 24H to 27H, common area 1 pages 18H to 1FH.
+const BYTES: usize = 0x28 * 4096;
 
 // No run has a budget above a million states.
 const MOST_STEPS: u64 = 333_333;
@@ -28,8 +29,8 @@ const MOST_STEPS: u64 = 333_333;
 // What the runs come to.
 #[derive(Clone, Copy)]
 struct Timed {
-    cpu: Registers,
     states: u64,
+    sum: u32,
     last: Option<Sent>,
 }
 
@@ -57,22 +58,33 @@ fn steps<M: Memory, P: Panel>(card: &mut Card<M, P>, count: u64) -> Result<u64, 
     Ok(states)
 }
 
+// A checksum over the registers and the 64 KiB of memory as the card's window shows them.
+fn checksum<M: Memory, P>(card: &mut Card<M, P>) -> Result<u32, Denial> {
+    let (cpu, window) = card.registers();
+    let mut sum = registers_mixed(&cpu);
+    let mut page = [0u8; LONGEST];
+    for number in 0..16u16 {
+        card.look(window, number * 4096, &mut page)?;
+        sum = bytes_mixed(sum, &page);
+    }
+    Ok(sum)
+}
+
 // The panel's threshold stands where INT0 does not matter, since the image leaves IEF1 at 0.
 fn run(heap: Global, bytes: &mut [u8], size: BoardLength, count: u64) -> Result<Timed, Denial> {
     let panel = Script::new(Vec::new(heap), 0xFFFF_FFFF, 0xFF);
     let mut card = Card::new(Bank::new(bytes, size), panel);
     let states = steps(&mut card, count)?;
-    let (cpu, _) = card.registers();
+    let sum = checksum(&mut card)?;
     Ok(Timed {
-        cpu,
         states,
+        sum,
         last: card.panel().last_write(),
     })
 }
 
-fn show(rt: &HostRuntime, count: u64, timed: Timed, bytes: &[u8]) -> anyhow::Result<()> {
-    let Timed { cpu, states, last } = timed;
-    let sum = checksum(&cpu, bytes);
+fn show(rt: &HostRuntime, count: u64, timed: Timed) -> anyhow::Result<()> {
+    let Timed { states, sum, last } = timed;
     println!(rt; "steps {count}\nchecksum {sum:08X}")?;
     if let Some(Sent { port, byte }) = last {
         println!(rt; "last port write {port:04X} {byte:02X}")?;
@@ -88,5 +100,5 @@ fn main(rt: HostRuntime) -> anyhow::Result<()> {
     let mut bytes = memory_with_image(rt.alloc())?;
     let size = BoardLength::of_bank(&bytes).map_err(|_| anyhow!("the memory is too long"))?;
     let timed = run(rt.alloc(), &mut bytes, size, count).map_err(|_| anyhow!("a run is denied"))?;
-    show(&rt, count, timed, &bytes)
+    show(&rt, count, timed)
 }

@@ -1,4 +1,4 @@
-// A checksum over the registers and the memory, as bench/z80ex-run.c makes it.
+// A checksum over registers and then memory, as bench/z80ex-run.c makes it.
 use registers::registers::Registers;
 
 // S, Z, P/V, N and C. Bits 5 and 3 of F, and H behind a 16-bit sum, are not alike on the two processors.
@@ -10,7 +10,7 @@ fn mixed(sum: u32, byte: u8) -> u32 {
     turned.wrapping_mul(0x9E37_79B1)
 }
 
-fn all_mixed(sum: u32, bytes: &[u8]) -> u32 {
+pub fn bytes_mixed(sum: u32, bytes: &[u8]) -> u32 {
     bytes.iter().fold(sum, |all, byte| mixed(all, *byte))
 }
 
@@ -18,13 +18,14 @@ fn all_mixed(sum: u32, bytes: &[u8]) -> u32 {
 fn words_mixed(sum: u32, words: &[u16]) -> u32 {
     words
         .iter()
-        .fold(sum, |all, word| all_mixed(all, &word.to_be_bytes()))
+        .fold(sum, |all, word| bytes_mixed(all, &word.to_be_bytes()))
 }
 
-pub fn checksum(cpu: &Registers, bytes: &[u8]) -> u32 {
+// Of the registers alone: memory is to follow.
+pub fn registers_mixed(cpu: &Registers) -> u32 {
     let set = &cpu.main;
     let f = u8::from(set.f) & ALIKE;
     let single = [set.a, f, set.b, set.c, set.d, set.e, set.h, set.l];
     let words = [cpu.ix, cpu.iy, cpu.sp, cpu.pc];
-    all_mixed(words_mixed(all_mixed(0, &single), &words), bytes)
+    words_mixed(bytes_mixed(0, &single), &words)
 }
