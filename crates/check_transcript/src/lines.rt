@@ -3,13 +3,15 @@ use answers::answer::Answer;
 use card::ran::{Ran, Stop};
 use denial::{Denial, Fault};
 use machine::cost::Cost;
+use opened::pages::Pages;
+use registers::window::Window;
 use std::alloc::Global;
 use std::process::Abort;
 use std::test::Fail;
 use transcript::answer::answer_line;
 use transcript::compared::compared_line;
 use transcript::denied::denial_line;
-use transcript::opened::opened_line;
+use transcript::pages_line::opened_line;
 
 // A step, or a run, that met a full panel.
 const FULL: Fault = Fault {
@@ -140,15 +142,21 @@ fn comparisons(rt: HostRuntime) -> Result<(), Fail> {
     Ok(())
 }
 
+// Pages 00H to 0EH, and 7FH behind a gap.
 #[test]
 fn pages(rt: HostRuntime) -> Result<(), Fail> {
     let mut text = String::new(rt.alloc());
-    let mut pages = [false; 128];
+    let mut pages = Pages::none();
     opened_line(&mut text, &pages)?;
-    for page in [127, 0, 15, 16] {
-        pages[page] = true;
-    }
+    pages.open(Window {
+        cbar: 0xF0,
+        cbr: 0x70,
+        bbr: 0,
+    });
     opened_line(&mut text, &pages)?;
-    assert_eq!(&rt; text.as_str(), "opened\nopened 00 0F 10 7F\n");
+    assert_eq!(&rt;
+        text.as_str(),
+        "opened\nopened 00 01 02 03 04 05 06 07 08 09 0A 0B 0C 0D 0E 7F\n"
+    );
     Ok(())
 }

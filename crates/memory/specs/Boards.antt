@@ -32,9 +32,9 @@ bank_memory b = cut b.length (bank b.bytes.now)
 abbrev pub rom_ram_memory : RomRam → Mem
 rom_ram_memory b = cut b.length (rom_ram b.rom.now b.ram.now)
 
--- The lent bytes after a write of b to the address a: what was lent behind the board's end stays too.
-abbrev pub bank_run : Bank → ℕ → ℕ → List ℕ
-bank_run k a b = cond (is_address a && (bank_memory k).takes a) (slice_set k.bytes.now a b) k.bytes.now
+-- The lent bytes after a write of b to the address a of a board that ends at n: what was lent behind its end stays too.
+abbrev pub bank_run : ℕ → List ℕ → ℕ → ℕ → List ℕ
+bank_run n bytes a b = cond (is_address a && (cut n (bank bytes)).takes a) (slice_set bytes a b) bytes
 
 abbrev pub ram_run : RomRam → ℕ → ℕ → List ℕ
 ram_run k a b =

@@ -45,7 +45,7 @@ impl<'a> Memory for Bank<'a> {
     fn write(&mut self, at: u32, byte: u8) -> Result<(), Denial>
         ensures answer { answered result ≡ accepted at }
         ensures after { bank_memory self.new ≡ store (bank_memory self.old) at byte }
-        ensures bytes { self.new.bytes.now ≡ bank_run self.old at byte }
+        ensures bytes { self.new.bytes.now ≡ bank_run self.old.length self.old.bytes.now at byte }
         ensures loan { self.new.bytes.ghost_name ≡ self.old.bytes.ghost_name }
     {
         let i = place(at)?;
