@@ -1,3 +1,4 @@
 mod Spelled
 pub mod Listing
 pub mod Texts
+pub mod Writing

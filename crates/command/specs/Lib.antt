@@ -6,3 +6,4 @@ pub mod Reads
 pub mod Said
 pub mod Commands
 pub mod Worked
+pub mod Written
