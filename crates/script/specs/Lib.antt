@@ -1,0 +1,10 @@
+pub mod Wrong
+pub mod Puts
+pub mod Laid
+pub mod Boards
+pub mod Panels
+pub mod Setup
+pub mod Entries
+pub mod Script
+pub mod Shown
+pub mod Filled
