@@ -2,7 +2,7 @@
 use Rattle.std.specs.Prelude.{ℕ, List, ◌++◌, codes, decimal}
 use Rattle.command.specs.Wrongs as line
 use Rattle.script.specs.declared.wrong.Wrong.{Wrong}
-use Rattle.script.specs.declared.wrong.Wrong.TheVariants.{Line, RomTwice, RamTwice, LengthLate, PanelLate, NotAChain, SecondTwice, Outside, BeforeMake, BehindMake, MakeTwice, NoMake}
+use Rattle.script.specs.declared.wrong.Wrong.TheVariants.{Line, RomTwice, RamTwice, LengthLate, PanelLate, NotAChain, SecondTwice, Outside, Unreadable, BeforeMake, BehindMake, MakeTwice, NoMake}
 use Rattle.script.specs.declared.wrong.BadLine.{BadLine}
 use Rattle.script.specs.declared.wrong.Refused.{Refused}
 use Rattle.script.specs.declared.wrong.Refused.TheVariants as refused
@@ -16,6 +16,7 @@ wrong_text PanelLate = codes "chain or script comes once, before key and latch"
 wrong_text NotAChain = codes "key and latch are for a chain panel"
 wrong_text SecondTwice = codes "second comes once"
 wrong_text Outside = codes "there are bytes outside the board"
+wrong_text Unreadable = codes "the file cannot be read"
 wrong_text BeforeMake = codes "this comes behind make"
 wrong_text BehindMake = codes "this comes before make"
 wrong_text MakeTwice = codes "make comes once"

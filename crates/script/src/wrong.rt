@@ -22,6 +22,8 @@ pub enum Wrong {
     SecondTwice,
     // bytes where the board has none
     Outside,
+    // a file that cannot be read
+    Unreadable,
     BeforeMake,
     BehindMake,
     MakeTwice,
@@ -74,6 +76,7 @@ impl fmt::Display for Wrong {
             Wrong::NotAChain => f.write_str("key and latch are for a chain panel"),
             Wrong::SecondTwice => f.write_str("second comes once"),
             Wrong::Outside => f.write_str("there are bytes outside the board"),
+            Wrong::Unreadable => f.write_str("the file cannot be read"),
             Wrong::BeforeMake => f.write_str("this comes behind make"),
             Wrong::BehindMake => f.write_str("this comes before make"),
             Wrong::MakeTwice => f.write_str("make comes once"),
