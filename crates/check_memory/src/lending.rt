@@ -9,7 +9,7 @@ use std::test::Fail;
 
 // Writes a byte through a bank over the lent bytes. They are then what the bank holds.
 fn write_through(bytes: &mut [u8], size: BoardLength, at: u32, byte: u8)
-    ensures { bytes.exit.now ≡ bank_run (record { bytes = bytes.entry; length = bytes_of size }) at byte }
+    ensures { bytes.exit.now ≡ bank_run (bytes_of size) bytes.entry.now at byte }
 {
     let mut bank = Bank::new(bytes, size);
     // a denied write leaves them too, as the contract has it
