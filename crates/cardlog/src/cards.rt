@@ -9,7 +9,7 @@ use making::unmade::Unmade;
 use panel::script::Script as ScriptPanel;
 use script::assembled::Script;
 use script::filled::Filled;
-use script::panel::PanelKind;
+use script::plan::PanelKind;
 use std::process::ExitCode;
 use transcript::denied::denial_line;
 use transcript::shown::Shown;

@@ -1,3 +1,4 @@
 mod Behind
+mod Fit
 mod LineFeeds
 mod OneByOne

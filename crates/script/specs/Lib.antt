@@ -8,3 +8,4 @@ pub mod Entries
 pub mod Script
 pub mod Shown
 pub mod Filled
+pub mod Fitting

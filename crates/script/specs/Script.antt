@@ -50,7 +50,7 @@ line_taken number d (Err w) = Err (Line w)
 pub record Script : Type 0 where
   pub rom : ℕ
   pub ram : ℕ
-  -- into the first board, and before the second begins into both
+  -- into the first board, as which the second begins
   pub puts : List Put
   -- into the second board alone, if there is one
   pub second : Option (List Put)

@@ -4,9 +4,9 @@ use Rattle.std.specs.Global.{Vec}
 use Rattle.script.specs.declared.put.Put.{Put}
 use Rattle.script.specs.declared.put.What.{What}
 use Rattle.script.specs.declared.put.What.TheVariants.{Bytes, Fill, Image}
-use Rattle.script.specs.declared.panel.PanelKind.{PanelKind}
-use Rattle.script.specs.declared.panel.PanelKind.TheVariants.{Chain, Script}
-use Rattle.script.specs.declared.panel.Plan.{Plan}
+use Rattle.script.specs.declared.plan.PanelKind.{PanelKind}
+use Rattle.script.specs.declared.plan.PanelKind.TheVariants.{Chain, Script}
+use Rattle.script.specs.declared.plan.Plan.{Plan}
 use Rattle.script.specs.declared.boards.Boards.{Boards}
 use Rattle.script.specs.declared.setup.Setup.{Setup}
 use Rattle.script.specs.declared.draft.Draft.{Draft}

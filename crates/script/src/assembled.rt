@@ -6,7 +6,7 @@ ghost use Rattle.std.specs.Prelude.{◌≡◌, ◌≢◌, ◌∷◌, []};
 use crate::draft::Draft;
 use crate::entry::Entry;
 use crate::lines::first_line;
-use crate::panel::PanelKind;
+use crate::plan::PanelKind;
 use crate::put::Put;
 use crate::setup::Setup;
 use crate::wrong::{BadLine, Refused, Untaken, Wrong};
@@ -17,7 +17,7 @@ use std::alloc::Global;
 pub struct Script {
     pub rom: u32,
     pub ram: u32,
-    // into the first board, and before the second begins into both
+    // into the first board, as which the second begins
     pub puts: Vec<Put>,
     // into the second board alone, if there is one
     pub second: Option<Vec<Put>>,

@@ -5,7 +5,7 @@ ghost use Rattle.script.specs.Setup.{nothing_set_up, set_up};
 ghost use Rattle.std.specs.Prelude.{◌≡◌};
 
 use crate::boards::Boards;
-use crate::panel::{PanelKind, Plan};
+use crate::plan::{PanelKind, Plan};
 use crate::put::{Put, What};
 use crate::wrong::{Untaken, Wrong};
 use command::command::Command;
