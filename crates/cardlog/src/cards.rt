@@ -55,7 +55,15 @@ fn log_over<P: Shown + Drop>(
     let rom = rom.min(second.len());
     let (read, written) = second.split_at_mut(rom);
     match memory(read, written, &script.protect, &script.patch) {
-        Ok(memory) => log_two(rt, memory_of_first, memory, panel, other, &script.log, length),
+        Ok(memory) => log_two(
+            rt,
+            memory_of_first,
+            memory,
+            panel,
+            other,
+            &script.log,
+            length,
+        ),
         Err(denial) => denied(rt, denial),
     }
 }
