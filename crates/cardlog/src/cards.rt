@@ -1,98 +1,80 @@
-// The making of the script's card or cards.
-use crate::one::log_one;
-use crate::two::log_two;
-use anyhow::anyhow;
-use denial::Denial;
-use making::memories::memory;
-use making::panels::chain;
-use making::unmade::Unmade;
-use panel::script::Script as ScriptPanel;
-use script::assembled::Script;
-use script::filled::Filled;
-use script::plan::PanelKind;
-use std::process::ExitCode;
-use transcript::denied::denial_line;
+// What a log is served on: one card, or two that are given the same calls.
+use answers::call::Call;
+use card::card::Card;
+use card_log::progress::Progress;
+use log_listing::listed::list;
+use log_listing::listed_pair::list_pair;
+use memory::Memory;
+use std::alloc::{AllocError, Global};
+use transcript::compared::compared_line;
+use transcript::show::show;
 use transcript::shown::Shown;
 
-// A denied making: nothing is served.
-fn denied(rt: &HostRuntime, denial: Denial) -> anyhow::Result<ExitCode> {
-    let mut text = String::new(rt.alloc());
-    denial_line(&mut text, denial)?;
-    rt.print(text)?;
-    Ok(ExitCode::FAILURE)
+pub(crate) trait Cards {
+    // Serves a piece of the log, with a line for each answer.
+    fn list(
+        &mut self,
+        heap: Global,
+        log: &[Call],
+        progress: &mut Progress,
+        text: &mut String,
+    ) -> Result<(), AllocError>;
+
+    // The cards as they stand, over boards of so many bytes.
+    fn show(&self, text: &mut String, length: usize) -> Result<(), AllocError>;
+
+    // What is said of the cards at the log's end, behind the pages opened.
+    fn compare(&self, text: &mut String, progress: &Progress) -> Result<(), AllocError>;
 }
 
-fn unmade(rt: &HostRuntime, why: Unmade) -> anyhow::Result<ExitCode> {
-    match why {
-        Unmade::Denied(denial) => denied(rt, denial),
-        Unmade::NoMemory => Err(anyhow!("no memory for the panel")),
+#[derive(Drop)]
+pub(crate) struct One<M, P>(pub(crate) Card<M, P>);
+
+impl<M: Memory, P: Shown> Cards for One<M, P> {
+    fn list(
+        &mut self,
+        heap: Global,
+        log: &[Call],
+        progress: &mut Progress,
+        text: &mut String,
+    ) -> Result<(), AllocError> {
+        list(heap, &mut self.0, log, progress, text)
+    }
+
+    fn show(&self, text: &mut String, length: usize) -> Result<(), AllocError> {
+        show(text, &self.0, length)
+    }
+
+    fn compare(&self, _text: &mut String, _progress: &Progress) -> Result<(), AllocError> {
+        Ok(())
     }
 }
 
-// The panels may be denied too, but the memories come first.
-fn log_over<P: Shown + Drop>(
-    rt: &HostRuntime,
-    script: &Script,
-    filled: Filled,
-    panel: Result<P, Unmade>,
-    other: Result<P, Unmade>,
-) -> anyhow::Result<ExitCode> {
-    let Filled { mut first, second } = filled;
-    let length = first.len();
-    let rom = (script.rom as usize).min(length);
-    let (read, written) = first.split_at_mut(rom);
-    let memory_of_first = match memory(read, written, &script.protect, &script.patch) {
-        Ok(memory) => memory,
-        Err(denial) => return denied(rt, denial),
-    };
-    let (panel, other) = match (panel, other) {
-        (Ok(panel), Ok(other)) => (panel, other),
-        (Err(why), _) | (_, Err(why)) => return unmade(rt, why),
-    };
-    let Some(mut second) = second else {
-        return log_one(rt, memory_of_first, panel, &script.log, length);
-    };
-    let rom = rom.min(second.len());
-    let (read, written) = second.split_at_mut(rom);
-    match memory(read, written, &script.protect, &script.patch) {
-        Ok(memory) => log_two(
-            rt,
-            memory_of_first,
-            memory,
-            panel,
-            other,
-            &script.log,
-            length,
-        ),
-        Err(denial) => denied(rt, denial),
-    }
+#[derive(Drop)]
+pub(crate) struct Two<M, N, P> {
+    pub(crate) first: Card<M, P>,
+    pub(crate) second: Card<N, P>,
 }
 
-pub(crate) fn log_cards(
-    rt: &HostRuntime,
-    script: &Script,
-    filled: Filled,
-) -> anyhow::Result<ExitCode> {
-    match &script.panel {
-        PanelKind::Chain {
-            records,
-            key,
-            latch,
-        } => {
-            let panel = chain(rt.alloc(), *records, *key, *latch);
-            let other = chain(rt.alloc(), *records, *key, *latch);
-            log_over(rt, script, filled, panel, other)
-        }
-        PanelKind::Script {
-            int0_byte,
-            threshold,
-            reads,
-        } => {
-            let one = Vec::from_slice(rt.alloc(), reads)?;
-            let two = Vec::from_slice(rt.alloc(), reads)?;
-            let panel = ScriptPanel::new(one, *threshold, *int0_byte);
-            let other = ScriptPanel::new(two, *threshold, *int0_byte);
-            log_over(rt, script, filled, Ok(panel), Ok(other))
-        }
+impl<M: Memory, N: Memory, P: Shown> Cards for Two<M, N, P> {
+    fn list(
+        &mut self,
+        heap: Global,
+        log: &[Call],
+        progress: &mut Progress,
+        text: &mut String,
+    ) -> Result<(), AllocError> {
+        list_pair(heap, &mut self.first, &mut self.second, log, progress, text)
+    }
+
+    // The first card, then the second.
+    fn show(&self, text: &mut String, length: usize) -> Result<(), AllocError> {
+        show(text, &self.first, length)?;
+        writeln!(text, "second")?;
+        show(text, &self.second, length)
+    }
+
+    fn compare(&self, text: &mut String, progress: &Progress) -> Result<(), AllocError> {
+        compared_line(text, progress.difference)
     }
 }

@@ -1,8 +1,10 @@
 // What the program reads: the script, and the files that it names.
 use anyhow::anyhow;
-use script::assembled::Script;
+use script::assembled::{Script, parse};
+use script::filled::Filled;
 use script::put::{Put, What};
-use script::wrong::{BadLine, Wrong};
+use script::wrong::{BadLine, Refused, Wrong};
+use std::alloc::AllocError;
 use std::io::Read;
 use std::{env, fs};
 
@@ -24,45 +26,37 @@ pub(crate) fn script_text(rt: &HostRuntime) -> anyhow::Result<Vec<u8>> {
 fn image(rt: &HostRuntime, put: &Put) -> Result<Vec<u8>, BadLine> {
     match &put.what {
         What::Image(name) => {
-            match fs::read(rt, name.as_str()) {
-                Ok(bytes) => Ok(bytes),
-                Err(_) => Err(BadLine {
-                    line: put.line,
-                    wrong: Wrong::Unreadable,
-                }),
-            }
+            fs::read(rt, name.as_str()).map_err(|_| BadLine {
+                line: put.line,
+                wrong: Wrong::Unreadable,
+            })
         }
         What::Bytes(_) | What::Fill { .. } => Ok(Vec::new(rt.alloc())),
     }
 }
 
-fn add_images(
-    rt: &HostRuntime,
-    files: &mut Vec<Vec<u8>>,
-    puts: &[Put],
-) -> anyhow::Result<Result<(), BadLine>> {
+fn add_images(rt: &HostRuntime, files: &mut Vec<Vec<u8>>, puts: &[Put]) -> Result<(), Refused> {
     for put in puts {
-        match image(rt, put) {
-            Ok(bytes) => files.push(bytes)?,
-            Err(bad) => return Ok(Err(bad)),
-        }
+        let bytes = image(rt, put)?;
+        files.push(bytes).map_err(AllocError::from)?;
     }
-    Ok(Ok(()))
+    Ok(())
 }
 
-// A file for each put, those of the second board behind the others; or the first line whose file cannot be read.
-pub(crate) fn images(
-    rt: &HostRuntime,
-    script: &Script,
-) -> anyhow::Result<Result<Vec<Vec<u8>>, BadLine>> {
+// A file for each put, those of the second board behind the others.
+fn images(rt: &HostRuntime, script: &Script) -> Result<Vec<Vec<u8>>, Refused> {
     let mut files = Vec::new(rt.alloc());
-    if let Err(bad) = add_images(rt, &mut files, &script.puts)? {
-        return Ok(Err(bad));
-    }
+    add_images(rt, &mut files, &script.puts)?;
     if let Some(puts) = &script.second {
-        if let Err(bad) = add_images(rt, &mut files, puts)? {
-            return Ok(Err(bad));
-        }
+        add_images(rt, &mut files, puts)?;
     }
-    Ok(Ok(files))
+    Ok(files)
+}
+
+// The script and its boards, or the first line that is wrong.
+pub(crate) fn read_script(rt: &HostRuntime, text: &[u8]) -> Result<(Script, Filled), Refused> {
+    let script = parse(rt.alloc(), text)?;
+    let files = images(rt, &script)?;
+    let boards = script.boards(rt.alloc(), &files)?;
+    Ok((script, boards))
 }

@@ -4,32 +4,17 @@
 
 mod cards;
 mod input;
-mod one;
-mod two;
+mod log;
+mod start;
 
-use cards::log_cards;
-use input::{images, script_text};
-use script::assembled::parse;
+use input::{read_script, script_text};
+use start::log_script;
 use std::process::ExitCode;
 
 fn main(rt: HostRuntime) -> anyhow::Result<ExitCode> {
     let text = script_text(&rt)?;
-    let script = match parse(rt.alloc(), &text) {
-        Ok(script) => script,
-        Err(refused) => {
-            rt.println(refused)?;
-            return Ok(ExitCode::FAILURE);
-        }
-    };
-    let files = match images(&rt, &script)? {
-        Ok(files) => files,
-        Err(bad) => {
-            rt.println(bad)?;
-            return Ok(ExitCode::FAILURE);
-        }
-    };
-    match script.boards(rt.alloc(), &files) {
-        Ok(filled) => log_cards(&rt, &script, filled),
+    match read_script(&rt, &text) {
+        Ok((script, boards)) => log_script(&rt, &script, boards),
         Err(refused) => {
             rt.println(refused)?;
             Ok(ExitCode::FAILURE)

@@ -1,0 +1,100 @@
+// The making of a script's card or cards.
+use crate::cards::{One, Two};
+use crate::log::log_all;
+use anyhow::anyhow;
+use card_log::pair::replay_pair;
+use card_log::replay::replay;
+use card_log::served::{Replayed, ReplayedPair};
+use denial::Denial;
+use making::memories::memory;
+use making::panels::chain;
+use making::unmade::Unmade;
+use panel::script::Script as ScriptPanel;
+use script::assembled::Script;
+use script::filled::Filled;
+use script::plan::PanelKind;
+use std::process::ExitCode;
+use transcript::denied::denial_line;
+use transcript::shown::Shown;
+
+// A denied making: nothing is served.
+fn denied(rt: &HostRuntime, denial: Denial) -> anyhow::Result<ExitCode> {
+    let mut text = String::new(rt.alloc());
+    denial_line(&mut text, denial)?;
+    rt.print(text)?;
+    Ok(ExitCode::FAILURE)
+}
+
+fn unmade(rt: &HostRuntime, why: Unmade) -> anyhow::Result<ExitCode> {
+    match why {
+        Unmade::Denied(denial) => denied(rt, denial),
+        Unmade::NoMemory => Err(anyhow!("no memory for the panel")),
+    }
+}
+
+// The panels may be denied too, but the memories come first.
+fn log_over<P: Shown + Drop>(
+    rt: &HostRuntime,
+    script: &Script,
+    boards: Filled,
+    panel: Result<P, Unmade>,
+    other: Result<P, Unmade>,
+) -> anyhow::Result<ExitCode> {
+    let Filled { mut first, second } = boards;
+    let length = first.len();
+    let rom = (script.rom as usize).min(length);
+    let (read, written) = first.split_at_mut(rom);
+    let under_first = match memory(read, written, &script.protect, &script.patch) {
+        Ok(memory) => memory,
+        Err(denial) => return denied(rt, denial),
+    };
+    let (panel, other) = match (panel, other) {
+        (Ok(panel), Ok(other)) => (panel, other),
+        (Err(why), _) | (_, Err(why)) => return unmade(rt, why),
+    };
+    let Some(mut second) = second else {
+        let Replayed { card, log: _ } = replay(rt.alloc(), under_first, panel, &[]);
+        return log_all(rt, &mut One(card), &script.log, length);
+    };
+    let rom = rom.min(second.len());
+    let (read, written) = second.split_at_mut(rom);
+    let under_second = match memory(read, written, &script.protect, &script.patch) {
+        Ok(memory) => memory,
+        Err(denial) => return denied(rt, denial),
+    };
+    let ReplayedPair {
+        first,
+        second,
+        log: _,
+    } = replay_pair(rt.alloc(), under_first, under_second, panel, other, &[]);
+    log_all(rt, &mut Two { first, second }, &script.log, length)
+}
+
+pub(crate) fn log_script(
+    rt: &HostRuntime,
+    script: &Script,
+    boards: Filled,
+) -> anyhow::Result<ExitCode> {
+    match &script.panel {
+        PanelKind::Chain {
+            records,
+            key,
+            latch,
+        } => {
+            let panel = chain(rt.alloc(), *records, *key, *latch);
+            let other = chain(rt.alloc(), *records, *key, *latch);
+            log_over(rt, script, boards, panel, other)
+        }
+        PanelKind::Script {
+            int0_byte,
+            threshold,
+            reads,
+        } => {
+            let one = Vec::from_slice(rt.alloc(), reads)?;
+            let two = Vec::from_slice(rt.alloc(), reads)?;
+            let panel = ScriptPanel::new(one, *threshold, *int0_byte);
+            let other = ScriptPanel::new(two, *threshold, *int0_byte);
+            log_over(rt, script, boards, Ok(panel), Ok(other))
+        }
+    }
+}
