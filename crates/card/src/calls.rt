@@ -58,11 +58,11 @@ impl<M: Memory, P: Panel> Card<M, P> {
         ensures run { ran M.memory P.state result self.new ≡ run_called P.make budget (model M.memory P.state self.old) }
         ensures few { Each ChangesFew (running.run P.make budget (model M.memory P.state self.old)).steps }
     {
-        self.run_before(budget, &mut Nobody)
+        self.run_witnessed(budget, &mut Nobody)
     }
 
-    // The same before a witness.
-    pub fn run_before<W: Witness>(&mut self, budget: u32, witness: &mut W) -> Result<Ran, Denial>
+    // The same, seen by a witness.
+    pub fn run_witnessed<W: Witness>(&mut self, budget: u32, witness: &mut W) -> Result<Ran, Denial>
         ensures run { ran M.memory P.state result self.new ≡ run_called P.make budget (model M.memory P.state self.old) }
         ensures noted { W.state witness.new ≡ (if running.is_budget budget then after_steps W.noted (W.state witness.old) (running.run P.make budget (model M.memory P.state self.old)).steps else W.state witness.old) }
     {

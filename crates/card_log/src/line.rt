@@ -61,7 +61,7 @@ impl Line {
         let Line { call, room } = self;
         match call {
             Call::Step => Answer::Step(step(card, opening)),
-            Call::Run(budget) => Answer::Run(card.run_before(budget, opening)),
+            Call::Run(budget) => Answer::Run(card.run_witnessed(budget, opening)),
             Call::Reset => {
                 card.reset();
                 Answer::Reset

@@ -6,7 +6,7 @@ use Rattle.card_log.proofs.line.Line.serve.Goals as goal
 
 pub returns-in-Run-clause-opened : goal.returns-in-Run-clause-opened
 returns-in-Run-clause-opened g c =
-    rw c.in-Run.is (c.run_before.ensures.noted ∙ by_run g.P.Panel.make c.in-Run.budget _ (pages_of c.args.opening.now.pages))
+    rw c.in-Run.is (c.run_witnessed.ensures.noted ∙ by_run g.P.Panel.make c.in-Run.budget _ (pages_of c.args.opening.now.pages))
 
 pub returns-in-Look-clause-opened : goal.returns-in-Look-clause-opened
 returns-in-Look-clause-opened g c =
