@@ -1,6 +1,6 @@
 // What the program reads: the script, and the files that it names.
 use anyhow::anyhow;
-use script::assembled::{Script, parse};
+use script::assembled::Script;
 use script::filled::Filled;
 use script::put::{Put, What};
 use script::wrong::{BadLine, Refused, Wrong};
@@ -53,10 +53,8 @@ fn images(rt: &HostRuntime, script: &Script) -> Result<Vec<Vec<u8>>, Refused> {
     Ok(files)
 }
 
-// The script and its boards, or the first line that is wrong.
-pub(crate) fn read_script(rt: &HostRuntime, text: &[u8]) -> Result<(Script, Filled), Refused> {
-    let script = parse(rt.alloc(), text)?;
-    let files = images(rt, &script)?;
-    let boards = script.boards(rt.alloc(), &files)?;
-    Ok((script, boards))
+// The boards, filled, or the first line whose file cannot be read or is too long.
+pub(crate) fn boards(rt: &HostRuntime, script: &Script) -> Result<Filled, Refused> {
+    let files = images(rt, script)?;
+    script.boards(rt.alloc(), &files)
 }

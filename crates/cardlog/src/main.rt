@@ -7,17 +7,15 @@ mod input;
 mod log;
 mod start;
 
-use input::{read_script, script_text};
-use start::log_script;
+use input::script_text;
+use script::assembled::parse;
+use start::{refuse, start};
 use std::process::ExitCode;
 
 fn main(rt: HostRuntime) -> anyhow::Result<ExitCode> {
     let text = script_text(&rt)?;
-    match read_script(&rt, &text) {
-        Ok((script, boards)) => log_script(&rt, &script, boards),
-        Err(refused) => {
-            rt.println(refused)?;
-            Ok(ExitCode::FAILURE)
-        }
+    match parse(rt.alloc(), &text) {
+        Ok(script) => start(&rt, &script),
+        Err(refused) => refuse(&rt, refused),
     }
 }

@@ -1,5 +1,6 @@
-// The making of a script's card or cards.
+// The making of a script's card or cards, and what is printed where there is none.
 use crate::cards::{One, Two};
+use crate::input::boards;
 use crate::log::log_all;
 use anyhow::anyhow;
 use card_log::pair::replay_pair;
@@ -9,13 +10,21 @@ use denial::Denial;
 use making::memories::memory;
 use making::panels::chain;
 use making::unmade::Unmade;
+use memory::length::BoardLength;
 use panel::script::Script as ScriptPanel;
 use script::assembled::Script;
 use script::filled::Filled;
 use script::plan::PanelKind;
+use script::wrong::Refused;
 use std::process::ExitCode;
 use transcript::denied::denial_line;
 use transcript::shown::Shown;
+
+// A script that is refused: nothing is made.
+pub(crate) fn refuse(rt: &HostRuntime, refused: Refused) -> anyhow::Result<ExitCode> {
+    rt.println(refused)?;
+    Ok(ExitCode::FAILURE)
+}
 
 // A denied making: nothing is served.
 fn denied(rt: &HostRuntime, denial: Denial) -> anyhow::Result<ExitCode> {
@@ -70,11 +79,7 @@ fn log_over<P: Shown + Drop>(
     log_all(rt, &mut Two { first, second }, &script.log, length)
 }
 
-pub(crate) fn log_script(
-    rt: &HostRuntime,
-    script: &Script,
-    boards: Filled,
-) -> anyhow::Result<ExitCode> {
+fn log_script(rt: &HostRuntime, script: &Script, boards: Filled) -> anyhow::Result<ExitCode> {
     match &script.panel {
         PanelKind::Chain {
             records,
@@ -96,5 +101,16 @@ pub(crate) fn log_script(
             let other = ScriptPanel::new(two, *threshold, *int0_byte);
             log_over(rt, script, boards, Ok(panel), Ok(other))
         }
+    }
+}
+
+// A board that is too long is denied before its bytes are got, and before a file is read.
+pub(crate) fn start(rt: &HostRuntime, script: &Script) -> anyhow::Result<ExitCode> {
+    if u64::from(script.rom) + u64::from(script.ram) > BoardLength::LONGEST as u64 {
+        return denied(rt, Denial::MemoryTooLong);
+    }
+    match boards(rt, script) {
+        Ok(boards) => log_script(rt, script, boards),
+        Err(refused) => refuse(rt, refused),
     }
 }
