@@ -1,21 +1,35 @@
-"""Holds the vectors by hand against z80ex with the rules, and against the model. Usage: check-hand.py STEPPER.
+"""Holds the vectors by hand against z80ex and ucsim, both with the rules, and the model; and those by ucsim against the model.
 
-Traps and idle steps have neither. Internal ports and the window, which z80ex does not have, are the model's here."""
-import subprocess
+Usage: check-hand.py STEPPER FILE. Traps and idle steps have none of the three. Internal ports and the window, which neither
+emulator has, are the model's here."""
 import sys
 
 import book
 import hand
 import make
 import model
-from vector import WORDS
+import ucsim
+import vector
+from vector import UCSIM, WORDS
 
 PORTED = {"IN A,(n)", "OUT (n),A", "IN r,(C)", "OUT (C),r"} | make.BY_B
 
 
-def own(v, form):
+def modelled(v, form):
     step = model.Step(form.name, v.code, v.before, {a: b for a, b, _ in v.cells}, v.access[2])
     assert (step.st, step.access, form.cost(step.taken)) == (v.after, v.access, v.cost), v.line()
+
+
+def ucsim_has(v, form):
+    ports = form.name in ("IN0 r,(n)", "OUT0 (n),r")
+    return form.name in make.OWN and v.code[1] != make.MLT_SP and (v.access[0] != 0 or not ports)
+
+
+def stepped(v, form, stepper):
+    code = v.code[:form.length]
+    [done] = ucsim.steps([make.asked_of_ucsim(code, v.before, v.cells, v.access[2])])
+    after, _, access, cells = make.completed(stepper, form, code, v.before, v.cells, v.access[2], done)
+    assert (after, access, cells) == (v.after, v.access, v.cells), v.line()
 
 
 def emulated(v, form, opcode, stepper):
@@ -25,11 +39,7 @@ def emulated(v, form, opcode, stepper):
     internal = form.name in PORTED and model.internal(v.before, port)
     answer = model.internal_read(v.before, port) if internal else v.access[2]
     given = [(a, before[p]) for a, p in enumerate(shown) if p in before]
-    numbers = [v.before[w] for w in WORDS] + [v.before[k] for k in ("I", "R", "IEF1", "IEF2", "IM")]
-    numbers += [answer, 1, len(given)] + [x for pair in given for x in pair]
-    line = "".join(f"{b:02X}" for b in v.code) + " " + " ".join(f"{n:x}" for n in numbers) + "\n"
-    out = subprocess.run([stepper], input=line, capture_output=True, text=True, check=True).stdout
-    got = [int(x, 16) for x in out.split()]
+    [got] = make.emulate(stepper, [make.request(v.code, v.before, answer, 1, given)])
     after = dict(v.before, EI=int(form.name == "EI"))
     after.update(zip(WORDS + ["I", "R", "IEF1", "IEF2", "IM", "MODE"], got[:18]))
     access = got[18:21]
@@ -47,21 +57,38 @@ def emulated(v, form, opcode, stepper):
     assert all(b == c or a in touched for a, (b, c) in listed.items()), v.line()
 
 
-def main():
-    counts = [0, 0, 0]
+def by_hand(stepper):
+    counts = dict.fromkeys(("z80ex", "ucsim", "model", "none"), 0)
     for v in hand.vectors():
         page, opcode = book.split(v.code)
         if v.before["MODE"] or opcode not in book.DEFINED[page]:
-            counts[2] += 1
+            counts["none"] += 1
             continue
         form = book.form(page, opcode)
-        if form.name in make.OWN:
-            own(v, form)
-            counts[1] += 1
+        if form.name in make.OWN | make.BY_HAND:
+            modelled(v, form)
+            counts["model"] += 1
+            if ucsim_has(v, form):
+                stepped(v, form, stepper)
+                counts["ucsim"] += 1
         else:
-            emulated(v, form, opcode, sys.argv[1])
-            counts[0] += 1
-    print("by hand: {} as z80ex with the rules, {} as the model, {} traps and idle steps".format(*counts))
+            emulated(v, form, opcode, stepper)
+            counts["z80ex"] += 1
+    print("by hand: {z80ex} as z80ex with the rules, {model} as the model, {ucsim} of them as ucsim with the rules too; "
+          "{none} traps and idle steps".format(**counts))
+
+
+def by_ucsim(lines):
+    vectors = [vector.read(line) for line in lines if int(line[0]) == UCSIM]
+    for v in vectors:
+        modelled(v, book.form(*book.split(v.code)))
+    print(f"by ucsim: {len(vectors)} as the model")
+
+
+def main():
+    by_hand(sys.argv[1])
+    with open(sys.argv[2]) as f:
+        by_ucsim(f.read().splitlines())
 
 
 main()

@@ -75,8 +75,9 @@ def check(number, line, seen, costs):
         elif mark == "IEF2":
             assert (a.f & bit != 0) == (b.ief2 == 1), f"line {number}: {flag} is IEF2"
         elif mark == "bit7":
-            moved = byte if kind else next(c[2] for c in cells if c[0] == b.hl)
-            assert source == 3 or (a.f & bit != 0) == (int(moved, 16) >= 128), f"line {number}: {flag} is bit 7"
+            # Inside the card nothing shows the byte but the cell; the window keeps the lower twelve bits of its address.
+            moved = byte if kind else next(c[2] for c in cells if (c[0] ^ b.hl) & 0xFFF == 0)
+            assert (a.f & bit != 0) == (int(moved, 16) >= 128), f"line {number}: {flag} is bit 7"
         elif mark == "B==0":
             assert (a.f & bit != 0) == (a.bc >> 8 == 0), f"line {number}: {flag} tells B"
         elif mark == "BC!=0":
@@ -109,13 +110,14 @@ def main():
     assert len({len(line) for line in lines}) == 1
     print(f"{len(lines)} vectors, {len(text)} bytes, {len(lines[0]) + 1} to a line")
     for page in book.PAGES:
-        counts = [seen[1][page, op] + seen[2][page, op] for op in book.DEFINED[page]]
+        # Ten by an emulator, or by hand what no emulator has; one that has both is counted by the emulator.
+        counts = [seen[1][page, op] + seen[2][page, op] or seen[3][page, op] for op in book.DEFINED[page]]
         assert min(counts) >= 10, page
         for op in book.DEFINED[page]:
             form = book.form(page, op)
             assert costs[page, op] == set(form.costs), f"{form.name}: one way is missing"
         print(f"{page:5} {len(counts):3} opcodes, {sum(counts):4} vectors, {min(counts)} to {max(counts)} each")
-    for source, name in ((1, "z80ex"), (2, "model"), (3, "hand")):
+    for source, name in ((1, "z80ex"), (2, "ucsim"), (3, "hand")):
         print(f"{name:6} {sum(seen[source].values()):4} vectors, {len(seen[source]):3} different opcodes, trap or idle steps included")
     print(f"hand: {seen[3]['trap']} traps, {seen[3]['idle']} idle steps")
 

@@ -5,18 +5,20 @@ import sys
 
 import book
 import hand
-import model
-from vector import EMULATOR, MODEL, CELLS, WORDS, Vector
+import ucsim
+from vector import CELLS, UCSIM, WORDS, Z80EX, Vector
 
 STATES = 10
-MORE = {"DAA": 40, "IN0 r,(n)": 14, "OUT0 (n),r": 14, "OTIM": 24, "OTDM": 24, "OTIMR": 24, "OTDMR": 24, "TSTIO n": 24}
+MORE = {"DAA": 40, "IN0 r,(n)": 14, "OUT0 (n),r": 14}
 for _name in ("LDIR", "LDDR", "CPIR", "CPDR", "INIR", "INDR", "OTIR", "OTDR"):
     MORE[_name] = 16
-OWN = {"IN0 r,(n)", "OUT0 (n),r", "TST r", "TST (HL)", "TST n", "TSTIO n", "MLT ww", "SLP", "OTIM", "OTDM", "OTIMR", "OTDMR"}
+# The HD64180's own: those that ucsim has, but for MLT SP, and those that stand in hand.py alone.
+OWN = {"IN0 r,(n)", "OUT0 (n),r", "TST r", "TST (HL)", "TST n", "MLT ww"}
+BY_HAND = {"TSTIO n", "SLP", "OTIM", "OTDM", "OTIMR", "OTDMR"}
+MLT_SP = 0x7C
 CONDITIONS = {"JR cc,e", "RET f", "JP f,mn", "CALL f,mn"}
 BY_BC = {"LDI", "LDD", "LDIR", "LDDR", "CPI", "CPD", "CPIR", "CPDR"}
 BY_B = {"INI", "IND", "INIR", "INDR", "OUTI", "OUTD", "OTIR", "OTDR"}
-BY_B_OWN = {"OTIM", "OTDM", "OTIMR", "OTDMR"}
 S, Z, H, P, N, C = 0x80, 0x40, 0x10, 4, 2, 1
 
 rng = random.Random(64180)
@@ -66,7 +68,7 @@ def prepare(form, opcode, i):
         st["BC"] = [1, 1, 1, 0, 2, 0x100][i] if i < 6 else rng.randrange(3, 65536)
         if form.name.startswith("CP") and i in (0, 4, 5, 7):
             given[st["HL"]] = st["AF"] >> 8
-    if form.name in BY_B | BY_B_OWN:
+    if form.name in BY_B:
         high(st, "BC", [1, 1, 1, 0, 2, 0x10][i] if i < 6 else rng.randrange(256))
     return st, code, given
 
@@ -182,25 +184,34 @@ def taken(form, opcode, before, after):
     return again
 
 
-def from_emulator(stepper, wanted):
+def request(code, st, answer, seed, given=()):
+    """A line of input of z80ex-step.c; given holds pairs of address and byte."""
+    numbers = [st[w] for w in WORDS] + [st[k] for k in ("I", "R", "IEF1", "IEF2", "IM")]
+    numbers += [answer, seed, len(given)] + [x for pair in given for x in pair]
+    return "".join(f"{b:02X}" for b in padded(code)) + " " + " ".join(f"{n:x}" for n in numbers) + "\n"
+
+
+def emulate(stepper, requests):
+    """The numbers of each line of its output."""
+    out = subprocess.run([stepper], input="".join(requests), capture_output=True, text=True, check=True).stdout
+    return [[int(x, 16) for x in line.split()] for line in out.splitlines()]
+
+
+def from_z80ex(stepper, wanted):
     """Vectors of what a Z80 has too: wanted is a list of (page, opcode, i)."""
     vectors = {}
     left = list(wanted)
     while left:
-        asked, text = [], []
+        asked, requests = [], []
         for key in left:
             form = book.form(key[0], key[1])
             st, code, given = prepare(form, key[1], key[2])
             outside(form, st, code)
             answer = byte()
-            numbers = [st[w] for w in WORDS] + [st[k] for k in ("I", "R", "IEF1", "IEF2", "IM")]
-            numbers += [answer, rng.randrange(1, 1 << 31), len(given)] + [x for pair in given.items() for x in pair]
-            text.append("".join(f"{b:02X}" for b in padded(code)) + " " + " ".join(f"{n:x}" for n in numbers))
+            requests.append(request(code, st, answer, rng.randrange(1, 1 << 31), list(given.items())))
             asked.append((key, form, st, code, answer))
-        done = subprocess.run([stepper], input="\n".join(text) + "\n", capture_output=True, text=True, check=True)
         left = []
-        for (key, form, st, code, answer), line in zip(asked, done.stdout.splitlines(), strict=True):
-            got = [int(x, 16) for x in line.split()]
+        for (key, form, st, code, answer), got in zip(asked, emulate(stepper, requests), strict=True):
             after = dict(st)
             after.update(zip(WORDS + ["I", "R", "IEF1", "IEF2", "IM", "MODE"], got[:18]))
             after["EI"] = int(form.name == "EI")
@@ -216,36 +227,74 @@ def from_emulator(stepper, wanted):
                 vouched &= ~rule(form, key[1], st, after, access)
             cost = form.cost(taken(form, key[1], st, after))
             cells = guarded(st, padded(code), cells)
-            vectors[key] = Vector(EMULATOR, padded(code), st, after, vouched, tuple(access), cost, cells)
+            vectors[key] = Vector(Z80EX, padded(code), st, after, vouched, tuple(access), cost, cells)
     return [vectors[key] for key in wanted]
 
 
 INTERNAL = [0x33, 0x34, 0x38, 0x39, 0x3A, 0x3F, 0x00]
 
 
-def from_model(page, opcode, i):
-    """A vector of the HD64180's own instructions. The first seven of those with a port go to internal ones."""
-    form = book.form(page, opcode)
+def prepare_own(form, opcode, i):
+    """The i-th state of an own instruction, with its bytes, the panel's answer and the cells. The first seven of those with a
+    port go where an internal one would be, had ICR not moved them."""
     while True:
         st, code, _ = prepare(form, opcode, i)
         st["ICR"] = rng.randrange(8) << 5 | 0x1F
-        moved = st["ICR"] & 0xC0
-        port = (moved if i < 7 else moved ^ rng.choice([0x40, 0x80, 0xC0])) | (INTERNAL[i] if i < 7 else rng.randrange(64))
         if form.name in ("IN0 r,(n)", "OUT0 (n),r"):
-            code[2] = port
-        if form.name in BY_B_OWN | {"TSTIO n"}:
-            if form.name in BY_B_OWN and 8 <= i < 15:  # internal again, with other counts
-                port = moved | INTERNAL[i - 8]
-            st["BC"] = st["BC"] & 0xFF00 | port
-        answer = byte()
-        memory = {a: byte() for a in [st["HL"]]}
-        if st["HL"] in {(st["PC"] + k) & 0xFFFF for k in range(4)}:
-            continue
-        step = model.Step(form.name, code, st, memory, answer)
-        cells = [(a, memory[a], memory[a]) for a in step.read]
-        assert form.length == len(code)
-        cost = form.cost(step.taken)
-        return Vector(MODEL, padded(code), st, step.st, 0, step.access, cost, guarded(st, padded(code), cells))
+            low = INTERNAL[i] if i < len(INTERNAL) else rng.randrange(64)
+            code[2] = st["ICR"] & 0xC0 ^ rng.choice([0x40, 0x80, 0xC0]) | low
+        if st["HL"] not in {(st["PC"] + k) & 0xFFFF for k in range(4)}:
+            read = byte()
+            touched = [(st["HL"], read, read)] if form.name == "TST (HL)" else []
+            return st, code, byte(), guarded(st, padded(code), touched)
+
+
+# The rules by which ucsim's result is completed. What else it does not show, an own instruction leaves alone.
+
+def complete_refresh(after):
+    after["R"] = after["R"] & 0x80 | (after["R"] + 2) & 0x7F
+
+
+def complete_input(stepper, opcode, before, answer, after):
+    """F of IN0, which ucsim leaves alone, is that of IN r,(C), by z80ex; the two must read the same into r. Answers the bits of F
+    that z80ex does not vouch for."""
+    [got] = emulate(stepper, [request([0xED, opcode | 0x40], before, answer, 1)])
+    after["AF"] = after["AF"] & 0xFF00 | got[0] & 0xFF
+    assert [after[w] for w in WORDS[:4]] == got[:4]
+    return keep(before, after, 0x28)
+
+
+def asked_of_ucsim(code, st, cells, answer):
+    return ucsim.Request(padded(code), st, [(a, b) for a, b, _ in cells], code[-1], answer)
+
+
+def completed(stepper, form, code, st, cells, answer, stepped):
+    """What ucsim answered, completed: the state after, the bits of F vouched for, the panel's part, and the cells."""
+    got, kept, written = stepped
+    after = dict(st, EI=0, **got)
+    complete_refresh(after)
+    access, vouched = (0, 0, answer), 0xFF
+    if form.name == "OUT0 (n),r":
+        [(port, put)] = written.items()
+        access = (2, port, put)
+    else:
+        assert not written, form.name
+    if form.name == "IN0 r,(n)":
+        access = (1, code[2], answer)
+        vouched &= ~complete_input(stepper, code[1], st, answer, after)
+    return after, vouched, access, [(a, b, c) for (a, b, _), c in zip(cells, kept, strict=True)]
+
+
+def from_ucsim(stepper, wanted):
+    """Vectors of the own instructions that ucsim has: wanted is a list of (page, opcode, i)."""
+    forms = [book.form(page, opcode) for page, opcode, _ in wanted]
+    states = [prepare_own(form, opcode, i) for form, (_, opcode, i) in zip(forms, wanted)]
+    done = ucsim.steps([asked_of_ucsim(code, st, cells, answer) for st, code, answer, cells in states])
+    vectors = []
+    for form, (st, code, answer, cells), stepped in zip(forms, states, done, strict=True):
+        after, vouched, access, cells = completed(stepper, form, code, st, cells, answer, stepped)
+        vectors.append(Vector(UCSIM, padded(code), st, after, vouched, access, form.cost(False), cells))
+    return vectors
 
 
 def main():
@@ -253,10 +302,12 @@ def main():
     for page in book.PAGES:
         for opcode in book.DEFINED[page]:
             name = book.form(page, opcode).name
+            if name in BY_HAND or (page, opcode) == ("ED", MLT_SP):
+                continue
             for i in range(MORE.get(name, STATES)):
                 (own if name in OWN else emulated).append((page, opcode, i))
-    vectors = from_emulator(sys.argv[1], emulated)
-    vectors += [from_model(*key) for key in own]
+    vectors = from_z80ex(sys.argv[1], emulated)
+    vectors += from_ucsim(sys.argv[1], own)
     vectors += hand.vectors()
     for v in vectors:
         print(v.line())

@@ -1,4 +1,6 @@
-"""The HD64180's own instructions, and its internal ports: an independent reading of docs/CARD.md, not an emulator."""
+"""The HD64180's own instructions, and its internal ports: an independent reading of docs/CARD.md, not an emulator.
+
+No vector comes from it: those by ucsim and by hand are held against it."""
 
 
 def parity(byte):

@@ -6,7 +6,7 @@ PORTS = ["CBAR", "CBR", "BBR", "IL", "ITC", "ICR"]
 NAMES = WORDS + ["I", "R"] + DIGITS + PORTS
 RESET = dict(CBAR=0xF0, CBR=0, BBR=0, IL=0, ITC=0x39, ICR=0x1F)
 
-EMULATOR, MODEL, HAND = 1, 2, 3
+Z80EX, UCSIM, HAND = 1, 2, 3
 CELLS = 3
 LENGTH = 231
 
@@ -32,3 +32,21 @@ class Vector:
         text = " ".join(words)
         assert len(text) == LENGTH, len(text)
         return text
+
+
+def read(text):
+    """The vector that a line holds."""
+    w = text.split()
+
+    def registers(w):
+        r = dict(zip(WORDS, (int(x, 16) for x in w[:12])))
+        r.update(zip(["I", "R"], bytes.fromhex(w[12])), **dict(zip(DIGITS, map(int, w[13]))))
+        r.update(zip(PORTS, bytes.fromhex("".join(w[14:17]))))
+        return r
+
+    vouched, kind, port, byte, cycles, states = (int(x, 16) for x in w[36:42])
+    cells = [(int(c[:5], 16), int(c[5:7], 16), int(c[7:], 16)) for c in w[42:]]
+    before, after = registers(w[2:19]), registers(w[19:36])
+    v = Vector(int(w[0]), list(bytes.fromhex(w[1])), before, after, vouched, (kind, port, byte), (cycles, states), cells)
+    assert v.line() == text
+    return v

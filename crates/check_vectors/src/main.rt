@@ -63,7 +63,7 @@ fn tell(rt: &HostRuntime, line: u32, is: &Outcome, must: &Outcome) -> io::Result
 struct Counts {
     lines: u32,
     z80ex: Tally,
-    reading: Tally,
+    ucsim: Tally,
     hand: Tally,
     malformed: u32,
 }
@@ -72,14 +72,14 @@ impl Counts {
     fn differ(&self) -> u32 {
         self.z80ex
             .differ
-            .saturating_add(self.reading.differ)
+            .saturating_add(self.ucsim.differ)
             .saturating_add(self.hand.differ)
     }
 
     fn count(&mut self, source: Source, agrees: bool) {
         match source {
             Source::Z80ex => self.z80ex.count(agrees),
-            Source::Reading => self.reading.count(agrees),
+            Source::Ucsim => self.ucsim.count(agrees),
             Source::Hand => self.hand.count(agrees),
         }
     }
@@ -121,7 +121,7 @@ fn run(rt: &HostRuntime, bank: &mut Zeros) -> io::Result<()> {
         judge(rt, &mut counts, line.as_bytes(), bank)?;
     }
     row(rt, "z80ex", counts.z80ex)?;
-    row(rt, "second reading", counts.reading)?;
+    row(rt, "ucsim", counts.ucsim)?;
     row(rt, "by hand", counts.hand)?;
     let malformed = counts.malformed;
     println!(rt; "malformed {malformed}")

@@ -7,11 +7,11 @@ use machine::cost::Cost;
 use registers::registers::Registers;
 use registers::window::Window;
 
-// Who says so: another emulator, a second reading of the rules, or a hand.
+// Who says so: one of two other emulators, or a hand.
 #[derive(Clone, Copy)]
 pub enum Source {
     Z80ex,
-    Reading,
+    Ucsim,
     Hand,
 }
 
@@ -34,7 +34,7 @@ impl Reader<'_> {
     fn source(&mut self) -> Option<Source> {
         match self.digit()? {
             1 => Some(Source::Z80ex),
-            2 => Some(Source::Reading),
+            2 => Some(Source::Ucsim),
             3 => Some(Source::Hand),
             _ => None,
         }
