@@ -1,5 +1,5 @@
 -- One log and then another. Assumes nothing.
-use Rattle.std.specs.Prelude.{◌≡◌, ℕ, ◌+◌, List, ◌++◌, length, Some, None, Option}
+use Rattle.std.specs.Prelude.{◌≡◌, ℕ, ◌+◌, ◌-◌, ◌^◌, List, ◌++◌, length, min, Some, None, Option}
 use Rattle.panel.specs.Panel.{Make}
 use Rattle.processor.specs.Log.{Answer, Call}
 use Rattle.processor.specs.Step.{Model}
@@ -16,6 +16,12 @@ abbrev pub first_of : Option ℕ → ℕ → Option ℕ → Option ℕ
 first_of (Some k) lines later = Some k
 first_of None lines None = None
 first_of None lines (Some k) = Some (lines + k)
+
+-- The same, counted in 64 bits: a line behind 2^64 - 1 is told as that one.
+abbrev pub counted : Option ℕ → ℕ → Option ℕ → Option ℕ
+counted (Some k) lines later = Some k
+counted None lines None = None
+counted None lines (Some k) = Some (min (lines + k) (2 ^ 64 - 1))
 
 -- To serve one log and then another is to serve both joined, with every make of panel:
 pub record JoinLaws {S : Type 0} (make : Make S) : Type 0 where

@@ -4,7 +4,7 @@ ghost use Rattle.card.specs.Cards.{model};
 ghost use Rattle.card_log.specs.Replays.{reached};
 ghost use Rattle.opened.specs.Opened.{opened};
 ghost use Rattle.opened.specs.Pages.{joined, pages_of};
-ghost use Rattle.std.specs.Prelude.{◌≡◌, ◌+◌, ◌-◌, ◌^◌, ◌++◌, length, map, min, string_bytes, OnOk};
+ghost use Rattle.std.specs.Prelude.{◌≡◌, ◌+◌, ◌-◌, ◌^◌, ◌++◌, length, map, min, string_bytes, OnErr, OnOk};
 ghost use Rattle.transcript.specs.Answers.{answers_text};
 
 use answers::call::Call;
@@ -17,7 +17,7 @@ use std::alloc::{AllocError, Global};
 use transcript::answer::answer_lines;
 
 // Serves a piece of a log and puts a line for each answer behind the text. If memory runs out, the text has no more lines than
-// calls that were served.
+// calls that were served, and the progress is as it was.
 pub fn list<M: Memory, P: Panel>(
     heap: Global,
     card: &mut Card<M, P>,
@@ -30,6 +30,7 @@ pub fn list<M: Memory, P: Panel>(
     ensures lines { OnOk result (progress.new.lines ≡ min (progress.old.lines + length log.now) (2 ^ 64 - 1)) }
     ensures opened { OnOk result (pages_of progress.new.opened ≡ joined (pages_of progress.old.opened) (opened P.make (map call_of log.now) (model M.memory P.state card.old))) }
     ensures difference { OnOk result (progress.new.difference ≡ progress.old.difference) }
+    ensures stopped { OnErr result (progress.new ≡ progress.old) }
 {
     let served = serve(heap, card, log);
     answer_lines(text, &served.answers)?;

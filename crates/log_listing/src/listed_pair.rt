@@ -6,7 +6,7 @@ ghost use Rattle.card_log.specs.Replays.{FirstDifference, reached};
 ghost use Rattle.log_listing.specs.Pairs.{Compared};
 ghost use Rattle.opened.specs.Opened.{opened};
 ghost use Rattle.opened.specs.Pages.{joined, pages_of};
-ghost use Rattle.std.specs.Prelude.{◌≡◌, ◌+◌, ◌-◌, ◌^◌, ◌++◌, length, map, min, string_bytes, OnOk};
+ghost use Rattle.std.specs.Prelude.{◌≡◌, ◌+◌, ◌-◌, ◌^◌, ◌++◌, length, map, min, string_bytes, OnErr, OnOk};
 ghost use Rattle.transcript.specs.Answers.{answers_text};
 
 use answers::call::Call;
@@ -19,7 +19,7 @@ use std::alloc::{AllocError, Global};
 use transcript::answer::answer_lines;
 
 // Serves a piece of a log on both cards, and puts a line for each answer of the first behind the text. If memory runs out, the text
-// has no more lines than calls that were served.
+// has no more lines than calls that were served, and the progress is as it was.
 pub fn list_pair<M: Memory, N: Memory, P: Panel>(
     heap: Global,
     first: &mut Card<M, P>,
@@ -34,6 +34,7 @@ pub fn list_pair<M: Memory, N: Memory, P: Panel>(
     ensures lines { OnOk result (progress.new.lines ≡ min (progress.old.lines + length log.now) (2 ^ 64 - 1)) }
     ensures opened { OnOk result (pages_of progress.new.opened ≡ joined (pages_of progress.old.opened) (opened P.make (map call_of log.now) (model M.memory P.state first.old))) }
     ensures difference { OnOk result (Compared (reached P.make (map call_of log.now) (model M.memory P.state first.old)).answers (reached P.make (map call_of log.now) (model N.memory P.state second.old)).answers progress.old.difference progress.old.lines progress.new.difference) }
+    ensures stopped { OnErr result (progress.new ≡ progress.old) }
 {
     let served = serve_pair(heap, first, second, log);
     answer_lines(text, &served.answers)?;
