@@ -8,10 +8,9 @@ use card_log::replay::replay;
 use card_log::served::{Replayed, ReplayedPair};
 use denial::Denial;
 use making::memories::memory;
-use making::panels::chain;
+use making::panels::{chains, scripts};
 use making::unmade::Unmade;
 use memory::length::BoardLength;
-use panel::script::Script as ScriptPanel;
 use script::assembled::Script;
 use script::filled::Filled;
 use script::plan::PanelKind;
@@ -46,8 +45,7 @@ fn log_over<P: Shown + Drop>(
     rt: &HostRuntime,
     script: &Script,
     boards: Filled,
-    panel: Result<P, Unmade>,
-    other: Result<P, Unmade>,
+    panels: Result<(P, P), Unmade>,
 ) -> anyhow::Result<ExitCode> {
     let Filled { mut first, second } = boards;
     let length = first.len();
@@ -57,9 +55,9 @@ fn log_over<P: Shown + Drop>(
         Ok(memory) => memory,
         Err(denial) => return denied(rt, denial),
     };
-    let (panel, other) = match (panel, other) {
-        (Ok(panel), Ok(other)) => (panel, other),
-        (Err(why), _) | (_, Err(why)) => return unmade(rt, why),
+    let (panel, other) = match panels {
+        Ok(panels) => panels,
+        Err(why) => return unmade(rt, why),
     };
     let Some(mut second) = second else {
         let Replayed { card, log: _ } = replay(rt.alloc(), under_first, panel, &[]);
@@ -86,20 +84,16 @@ fn log_script(rt: &HostRuntime, script: &Script, boards: Filled) -> anyhow::Resu
             key,
             latch,
         } => {
-            let panel = chain(rt.alloc(), *records, *key, *latch);
-            let other = chain(rt.alloc(), *records, *key, *latch);
-            log_over(rt, script, boards, panel, other)
+            let panels = chains(rt.alloc(), *records, *key, *latch);
+            log_over(rt, script, boards, panels)
         }
         PanelKind::Script {
             int0_byte,
             threshold,
             reads,
         } => {
-            let one = Vec::from_slice(rt.alloc(), reads)?;
-            let two = Vec::from_slice(rt.alloc(), reads)?;
-            let panel = ScriptPanel::new(one, *threshold, *int0_byte);
-            let other = ScriptPanel::new(two, *threshold, *int0_byte);
-            log_over(rt, script, boards, Ok(panel), Ok(other))
+            let panels = scripts(rt.alloc(), reads, *threshold, *int0_byte)?;
+            log_over(rt, script, boards, Ok(panels))
         }
     }
 }
