@@ -53,7 +53,7 @@ fn log_over<P: Shown + Drop>(
     let (read, written) = first.split_at_mut(rom);
     let under_first = match memory(read, written, &script.protect, &script.patch) {
         Ok(memory) => memory,
-        Err(denial) => return denied(rt, denial),
+        Err(unmade) => return denied(rt, unmade.denial),
     };
     let (panel, other) = match panels {
         Ok(panels) => panels,
@@ -67,7 +67,7 @@ fn log_over<P: Shown + Drop>(
     let (read, written) = second.split_at_mut(rom);
     let under_second = match memory(read, written, &script.protect, &script.patch) {
         Ok(memory) => memory,
-        Err(denial) => return denied(rt, denial),
+        Err(unmade) => return denied(rt, unmade.denial),
     };
     let ReplayedPair {
         first,

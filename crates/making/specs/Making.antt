@@ -1,5 +1,6 @@
 -- What the making of a card's parts is to come to. Assumes nothing.
 use Rattle.std.specs.Prelude.{◌≡◌, ℕ, ◌+◌, ◌-◌, Bool, cond, ◌&&◌, List, length, Some, None, Ok, Err, Option, Result, nat_le}
+use Rattle.denial.specs.declared.unmade.Unmade as back
 use Rattle.denial.specs.Denials.{Told, numbered, told}
 use Rattle.memory.specs.Memory.{Mem}
 use Rattle.memory.specs.Boards.{board_length, rom_ram}
@@ -22,6 +23,16 @@ board_made rom ram = elim (board_length (length rom + length ram)) [ Ok n ↦ Ok
 abbrev pub memory_made : List ℕ → List ℕ → List Page → List PatchEntry → Result Mem Told
 memory_made rom ram protect patch =
     plugged (patch_denial patch) (patching patch) (plugged (protect_denial protect) (protecting protect) (board_made rom ram))
+
+-- With the bytes that were lent, where the making is denied.
+abbrev pub handed_back : List ℕ → Result Mem Told → Result Mem (Told × List ℕ)
+handed_back bytes (Ok m) = Ok m
+handed_back bytes (Err d) = Err (d, bytes)
+
+-- What the making did answer, seen so.
+abbrev pub seen : {P T : Type 0} → (P → Mem) → (T → List ℕ) → Result P (back.Unmade T) → Result Mem (Told × List ℕ)
+seen memory bytes (Ok p) = Ok (memory p)
+seen memory bytes (Err u) = Err (told u.denial, bytes u.given)
 
 -- A chain panel over a table of 2 to 4,096 records, with its key byte and latch; any other table is denied as 4.
 abbrev pub chain_made : ℕ → ℕ → Bool → Result State Told
