@@ -85,21 +85,14 @@ impl Counts {
     }
 }
 
-// The line is no vector, or speaks of a cell beyond all memory.
-fn no_vector(rt: &HostRuntime, counts: &mut Counts) -> io::Result<()> {
-    let number = counts.lines;
-    counts.malformed = counts.malformed.saturating_add(1);
-    println!(rt; "line {number} is no vector")
-}
-
 fn judge(rt: &HostRuntime, counts: &mut Counts, line: &[u8], bank: &mut Zeros) -> io::Result<()> {
     counts.lines = counts.lines.saturating_add(1);
     let Some(vector) = Vector::read(line) else {
-        return no_vector(rt, counts);
+        let number = counts.lines;
+        counts.malformed = counts.malformed.saturating_add(1);
+        return println!(rt; "line {number} is no vector");
     };
-    let Ok(is) = bank.outcome(&vector) else {
-        return no_vector(rt, counts);
-    };
+    let is = bank.outcome(&vector);
     let agrees = is == vector.after;
     if !agrees && counts.differ() < TOLD {
         tell(rt, counts.lines, &is, &vector.after)?;

@@ -3,7 +3,6 @@ use crate::access::Access;
 use crate::outcome::Outcome;
 use crate::recorder::Recorder;
 use crate::vector::Vector;
-use denial::Denial;
 use execution::step::step;
 use machine::cost::Cost;
 use machine::state::Machine;
@@ -15,39 +14,29 @@ fn places(pc: u16) -> [u32; 4] {
     [0, 1, 2, 3].map(|behind| u32::from(pc.wrapping_add(behind)))
 }
 
-fn write<const N: usize, M: Memory>(
-    memory: &mut M,
-    places: [u32; N],
-    bytes: [u8; N],
-) -> Result<(), Denial> {
+// Five digits can name a cell beyond all memory: it takes no byte, and holds FFH.
+fn write<const N: usize, M: Memory>(memory: &mut M, places: [u32; N], bytes: [u8; N]) {
     for (at, byte) in places.iter().zip(bytes.iter()) {
-        memory.write(*at, *byte)?;
+        let _ = memory.write(*at, *byte);
     }
-    Ok(())
 }
 
-fn read<const N: usize, M: Memory>(memory: &M, places: [u32; N]) -> Result<[u8; N], Denial> {
+fn read<const N: usize, M: Memory>(memory: &M, places: [u32; N]) -> [u8; N] {
     let mut bytes = [0; N];
     for (byte, at) in bytes.iter_mut().zip(places.iter()) {
-        *byte = memory.read(*at)?;
+        *byte = memory.read(*at).unwrap_or(0xFF);
     }
-    Ok(bytes)
+    bytes
 }
 
 // Puts bytes into the vector's cells, and others at its PC.
-fn put<M: Memory>(
-    memory: &mut M,
-    vector: &Vector,
-    cells: [u8; 3],
-    code: [u8; 4],
-) -> Result<(), Denial> {
-    write(memory, vector.cells.map(|cell| cell.at), cells)?;
-    write(memory, places(vector.cpu.pc), code)
+fn put<M: Memory>(memory: &mut M, vector: &Vector, cells: [u8; 3], code: [u8; 4]) {
+    write(memory, vector.cells.map(|cell| cell.at), cells);
+    write(memory, places(vector.cpu.pc), code);
 }
 
-// The step, and all but whether another byte changed; the vector's bytes are 00 again. It is denied where a cell lies
-// beyond all memory, which five digits can name; the panel has no step denied.
-pub fn stepped<M: Memory + Drop>(memory: M, vector: &Vector) -> Result<Outcome, Denial> {
+// The step, and all but whether another byte changed; the vector's bytes are 00 again.
+pub fn stepped<M: Memory + Drop>(memory: M, vector: &Vector) -> Outcome {
     let panel = Recorder {
         answer: vector.answer,
         access: Access::Nothing,
@@ -64,12 +53,13 @@ pub fn stepped<M: Memory + Drop>(memory: M, vector: &Vector) -> Result<Outcome, 
         vector,
         vector.cells.map(|cell| cell.before),
         vector.code,
-    )?;
-    let cost = step(&mut card).map_err(|fault| fault.denial)?;
-    let cells = read(&card.memory, vector.cells.map(|cell| cell.at))?;
-    let code = read(&card.memory, places(vector.cpu.pc))?;
-    put(&mut card.memory, vector, [0; 3], [0; 4])?;
-    Ok(Outcome {
+    );
+    // this panel has no step denied
+    let cost = step(&mut card).unwrap_or_default();
+    let cells = read(&card.memory, vector.cells.map(|cell| cell.at));
+    let code = read(&card.memory, places(vector.cpu.pc));
+    put(&mut card.memory, vector, [0; 3], [0; 4]);
+    Outcome {
         cpu: card.cpu,
         window: card.window,
         access: card.panel.access,
@@ -77,5 +67,5 @@ pub fn stepped<M: Memory + Drop>(memory: M, vector: &Vector) -> Result<Outcome, 
         cells,
         code,
         astray: false,
-    })
+    }
 }

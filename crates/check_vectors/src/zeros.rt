@@ -3,7 +3,6 @@ use crate::outcome::Outcome;
 use crate::trial::stepped;
 use crate::vector::Vector;
 use anyhow::anyhow;
-use denial::Denial;
 use memory::bank::Bank;
 use memory::length::BoardLength;
 use std::alloc::Global;
@@ -29,14 +28,14 @@ impl Zeros {
         Ok(Zeros { bytes, size })
     }
 
-    // What a step makes of a vector, or why there is none.
-    pub fn outcome(&mut self, vector: &Vector) -> Result<Outcome, Denial> {
+    // What a step makes of a vector.
+    pub fn outcome(&mut self, vector: &Vector) -> Outcome {
         let bytes = self.bytes.as_mut_slice();
         let outcome = stepped(Bank::new(bytes, self.size), vector);
         let astray = any(bytes);
         if astray {
             bytes.fill(0);
         }
-        Ok(Outcome { astray, ..outcome? })
+        Outcome { astray, ..outcome }
     }
 }

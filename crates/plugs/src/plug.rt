@@ -1,9 +1,9 @@
 // A plug of either kind: entries that name what it alters, over any memory.
 ghost use Rattle.plugs.specs.Entries.{latest, plug_denial};
-ghost use Rattle.plugs.specs.Plugs.{MakingLaws, made, plug_memory, plugged};
+ghost use Rattle.plugs.specs.Plugs.{MakingLaws, made, patched, plug_memory, plugged, protected};
 ghost use Rattle.std.specs.Prelude.{◌≡◌, IfOk};
 
-use crate::entry::Entry;
+use crate::entry::{Entry, Page, PatchEntry};
 use crate::table::Table;
 use denial::unmade::Unmade;
 use memory::Memory;
@@ -41,5 +41,7 @@ impl<E: Entry, M: Memory> Plug<E, M> {
 
 // Names what a plug of either kind is by its own words, so that it is proved; it does nothing.
 pub fn making_laws()
-    ensures { MakingLaws }
+    ensures laws { MakingLaws }
+    ensures protects { ⟦<Page as Entry>⟧.altered ≡ protected }
+    ensures patches { ⟦<PatchEntry as Entry>⟧.altered ≡ patched }
 {}

@@ -22,7 +22,10 @@ pub fn byte_through<M: Memory>(memory: &M, window: Window, at: u16) -> u8
 pub fn fill_through<M: Memory>(memory: &M, window: Window, at: u16, buffer: &mut [u8])
     ensures { buffer.new ≡ shown (M.memory memory.now).byte window at (length buffer.old) }
 {
-    for (k, byte) in buffer.iter_mut().enumerate() {
-        *byte = byte_through(memory, window, at.wrapping_add((k % 65_536) as u16));
+    // counted beside the loop: by the index of `enumerate`, tried, a page takes 1.7 times as long
+    let mut place = at;
+    for byte in buffer.iter_mut() {
+        *byte = byte_through(memory, window, place);
+        place = place.wrapping_add(1);
     }
 }
