@@ -1,6 +1,6 @@
 // A plug of either kind: entries that name what it alters, over any memory.
 ghost use Rattle.plugs.specs.Entries.{latest, plug_denial};
-ghost use Rattle.plugs.specs.Plugs.{MakingLaws, made, patched, plug_memory, plugged, protected};
+ghost use Rattle.plugs.specs.Plugs.{MakingLaws, is_page, is_patch, made, page_key, patch_key, patched, plug_memory, plugged, protected};
 ghost use Rattle.std.specs.Prelude.{◌≡◌, IfOk};
 
 use crate::entry::{Entry, Page, PatchEntry};
@@ -43,5 +43,7 @@ impl<E: Entry, M: Memory> Plug<E, M> {
 pub fn making_laws()
     ensures laws { MakingLaws }
     ensures protects { ⟦<Page as Entry>⟧.altered ≡ protected }
+    ensures pages { (⟦<Page as Entry>⟧.key ≡ page_key) × (⟦<Page as Entry>⟧.ranged ≡ is_page) }
     ensures patches { ⟦<PatchEntry as Entry>⟧.altered ≡ patched }
+    ensures addresses { (⟦<PatchEntry as Entry>⟧.key ≡ patch_key) × (⟦<PatchEntry as Entry>⟧.ranged ≡ is_patch) }
 {}
